@@ -1,0 +1,5 @@
+pub mod Tests
+pub mod Maps
+pub mod Counting
+pub mod Chains
+pub mod Warshall

@@ -1,0 +1,40 @@
+-- Maps that answer alike are one map, and what the layers keep.
+use mathlib.Core.Path.{_≡_, sym}
+use mathlib.Core.Bool.{Bool, not, _&&_}
+use Prim.Native.Nat.{ℕ}
+use lib.Dec.{T}
+use Rattle.theory.specs.Maps.{Map, Sound, turned, hidden}
+use Rattle.theory.proofs.Tests.{and-fst, and-snd, and-both}
+
+pub same-map : (m n : Map) → ((k : ℕ) → m .unit k ≡ n .unit k) → ((x y : ℕ) → m .pair x y ≡ n .pair x y) → m ≡ n
+same-map m n units pairings = λ i. record { unit = λ k. units k i; pair = λ x y. pairings x y i }
+
+pub turned-sound : (m : Map) → Sound m → Sound (turned m)
+turned-sound m s = record {
+  low = s .low;
+  high = s .high;
+  from = λ a b. s .to b a;
+  to = λ a b. s .from b a;
+  apart = λ a b p e. s .apart b a p (sym e);
+}
+
+pub hidden-sound : (marked : ℕ → Bool) (m : Map) → Sound m → Sound (hidden marked m)
+hidden-sound marked m s = record {
+  low = λ u t. s .low u (and-snd (not (marked u)) (m .unit u) t);
+  high = λ u t. s .high u (and-snd (not (marked u)) (m .unit u) t);
+  from = λ a b t. and-both (not (marked a)) (m .unit a) (from-free a b t) (s .from a b (below a b t));
+  to = λ a b t. and-both (not (marked b)) (m .unit b) (to-free a b t) (s .to a b (below a b t));
+  apart = λ a b t. s .apart a b (below a b t);
+}
+  where
+    from-free : (a b : ℕ) → T (hidden marked m .pair a b) → T (not (marked a))
+    from-free a b t = and-fst (not (marked a)) (not (marked b) && m .pair a b) t
+
+    rest : (a b : ℕ) → T (hidden marked m .pair a b) → T (not (marked b) && m .pair a b)
+    rest a b t = and-snd (not (marked a)) (not (marked b) && m .pair a b) t
+
+    to-free : (a b : ℕ) → T (hidden marked m .pair a b) → T (not (marked b))
+    to-free a b t = and-fst (not (marked b)) (m .pair a b) (rest a b t)
+
+    below : (a b : ℕ) → T (hidden marked m .pair a b) → T (m .pair a b)
+    below a b t = and-snd (not (marked b)) (m .pair a b) (rest a b t)

@@ -1,0 +1,27 @@
+-- Chains, and what a unit hears.
+use mathlib.Core.Path.{_≡_}
+use mathlib.Core.List.{List, [], _∷_}
+use mathlib.Core.Logic.{_⊎_}
+use Prim.Native.Nat.{ℕ}
+use lib.Dec.{T}
+use Rattle.theory.specs.Maps.{Map}
+
+-- From the unit s the units of the list follow in turn, each paired to the next, and the last of all is t.
+abbrev pub Onward : Map → ℕ → List ℕ → ℕ → Type 0
+Onward m s [] t = s ≡ t
+Onward m s (x ∷ xs) t = T (m .pair s x) × Onward m x xs t
+
+-- A chain from s to t: a list with the unit s first and t last, each paired to the next.
+-- The list that holds only s is a chain from s to s.
+abbrev pub Chain : Map → ℕ → ℕ → List ℕ → Type 0
+Chain m s t [] = ⊥
+Chain m s t (x ∷ xs) = (x ≡ s) × T (m .unit s) × Onward m s xs t
+
+-- w stands in the list.
+abbrev pub On : ℕ → List ℕ → Type 0
+On w [] = ⊥
+On w (x ∷ xs) = (w ≡ x) ⊎ On w xs
+
+-- s is heard by t: there is a chain from s to t.
+abbrev pub Heard : Map → ℕ → ℕ → Type 0
+Heard m s t = (c : List ℕ) × Chain m s t c
