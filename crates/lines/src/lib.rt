@@ -10,10 +10,11 @@ ghost use lib.Dec.{leb, eqb};
 ghost use lib.ListN.{length, getD, take};
 ghost use Rattle.std.specs.Options.{Cases as BySome};
 ghost use Rattle.std.specs.Results.{Cases};
+ghost use Rattle.std.specs.declared.result.Result.{Result};
 ghost use Rattle.std.specs.declared.option.Option.the-variants.{Some, None};
-ghost use Rattle.lines.specs.Grammar.{Said, name-byte};
+ghost use Rattle.lines.specs.Grammar.{Said, Right, name-byte};
 ghost use Rattle.lines.specs.Lines.{said, placed, number-cut, name-cut};
-ghost use Rattle.lines.specs.Reading.{read, name-run, number-run, digit-run, value-after, digit, followed as after-digit, name-field, number-field, read-enrol, read-drop, read-rank, read-two};
+ghost use Rattle.lines.specs.Reading.{read, read-by, name-run, number-run, digit-run, value-after, digit, followed as after-digit, name-field, number-field, read-enrol, read-drop, read-rank, read-two};
 
 // What a line says. Names are parts of the line.
 #[derive(Clone, Copy)]
@@ -228,15 +229,12 @@ fn two_names(rest: Rest<'_>) -> Result<(&[u8], &[u8]), Malformed>
     Ok((source, listener))
 }
 
-// What the line says, or the place where it is malformed.
-pub fn parse(line: &[u8]) -> Result<Line<'_>, Malformed>
-    ensures is { λ r. ⌜ placed said r ≡ read (now (line .entry)) ⌝ }
+// The letter decides how the bytes after it are read.
+fn parse_after(letter: u8, bytes: &[u8]) -> Result<Line<'_>, Malformed>
+    ensures { λ r. ⌜ placed said r ≡ read-by letter (now (bytes .entry)) ⌝ }
 {
-    let [letter, bytes @ ..] = line else {
-        return Err(Malformed { place: 1 });
-    };
     let rest = Rest { bytes, place: 2 };
-    match *letter as char {
+    match letter as char {
         'e' => parse_enrol(rest),
         'd' => parse_drop(rest),
         'p' => {
@@ -254,4 +252,16 @@ pub fn parse(line: &[u8]) -> Result<Line<'_>, Malformed>
         }
         _ => Err(Malformed { place: 1 }),
     }
+}
+
+// What the line says, or the place where it is malformed: the one answer that is right.
+pub fn parse(line: &[u8]) -> Result<Line<'_>, Malformed>
+    ensures is { λ r. ⌜ placed said r ≡ read (now (line .entry)) ⌝ }
+    ensures right { λ r. ⌜ Right (now (line .entry)) (placed said r) ⌝ }
+    ensures only { λ r. ⌜ ((other : Result Said ℕ) → Right (now (line .entry)) other → other ≡ placed said r) ⌝ }
+{
+    let [letter, bytes @ ..] = line else {
+        return Err(Malformed { place: 1 });
+    };
+    parse_after(*letter, bytes)
 }
