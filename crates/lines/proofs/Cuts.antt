@@ -10,7 +10,7 @@ use Rattle.std.proofs.shelf.Lists.{take-rest}
 use Rattle.std.proofs.shelf.Tests.{eq-eqb, ne-eqb}
 use Rattle.std.specs.declared.result.Result.{Result}
 use Rattle.std.specs.declared.result.Result.the-variants.{Ok, Err}
-use Rattle.lines.specs.Reading.{Cut, field}
+use Rattle.grammar.specs.Reading.{Cut, field}
 
 module _ {A : Type 0} (run : List ℕ → ℕ) (make : List ℕ → A) (xs : List ℕ) (place : ℕ) (space : getD xs 0 0 ≡ 32) where
   -- what follows the space, as the slice pattern has it

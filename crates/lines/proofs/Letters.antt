@@ -9,7 +9,7 @@ use lib.ListN.{length, getD, take, drop}
 use Rattle.std.proofs.shelf.Lists.{take-rest, nil-from-length}
 use Rattle.std.proofs.shelf.Tests.{ne-eqb}
 use Rattle.std.specs.declared.result.Result.the-variants.{Err}
-use Rattle.lines.specs.Reading.{read, read-by}
+use Rattle.grammar.specs.Reading.{read, read-by}
 
 pub first-letter : (line : List ℕ) → 1 ≤ length line → read-by (getD line 0 0) (take (length line - 1) (drop 1 line)) ≡ read line
 first-letter [] some = absurd (omega arith)

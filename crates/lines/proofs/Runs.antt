@@ -10,8 +10,8 @@ use Rattle.std.proofs.shelf.Lists.{at-drop-more, at-drop-all, take-more}
 use Rattle.std.proofs.shelf.Tests.{and-parts, leb-true, eqb-true, eqb-false, false≢true}
 use Rattle.std.specs.declared.option.Option.{Option}
 use Rattle.std.specs.declared.option.Option.the-variants.{Some, None}
-use Rattle.lines.specs.Grammar.{name-byte}
-use Rattle.lines.specs.Reading.{name-run, digit-run, number-run, value-after, digit, followed}
+use Rattle.grammar.specs.Grammar.{name-byte}
+use Rattle.grammar.specs.Reading.{name-run, digit-run, number-run, value-after, digit, followed}
 
 name-more : (xs : List ℕ) (n : ℕ) → n < length xs → n < 16 →
     name-run (16 - n) (drop n xs) ≡ cond (name-byte (getD xs n 0)) (suc (name-run (16 - (n + 1)) (drop (n + 1) xs))) 0

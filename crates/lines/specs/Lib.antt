@@ -1,3 +1,2 @@
-pub mod Grammar
-pub mod Reading
 pub mod Lines
+pub mod Texts

@@ -3,18 +3,22 @@
 // A line is a letter and its fields, each with one space before it. Reading goes from the front, and a field is the
 // longest start of the rest that can be one, so the place of the first byte that cannot go on is known at once.
 ghost use mathlib.Core.Bool.{true, false, cond, _&&_};
-ghost use mathlib.Core.List.{List};
+ghost use mathlib.Core.List.{List, _++_};
 ghost use mathlib.Core.Path.{_≡_};
 ghost use Prim.Native.Nat.{ℕ, _+_, _≤_, _<_};
+ghost use lib.Chars.{codes};
 ghost use lib.Dec.{leb, eqb};
 ghost use lib.ListN.{length, getD, take};
 ghost use Rattle.std.specs.Options.{Cases as BySome};
 ghost use Rattle.std.specs.Results.{Cases};
+ghost use Rattle.std.specs.Written.{decimal};
 ghost use Rattle.std.specs.declared.result.Result.{Result};
 ghost use Rattle.std.specs.declared.option.Option.the-variants.{Some, None};
-ghost use Rattle.lines.specs.Grammar.{Said, Right, name-byte};
+ghost use Rattle.grammar.specs.Grammar.{Said, Right, name-byte};
+ghost use Rattle.lines.specs.Texts.{first-line, after-line};
 ghost use Rattle.lines.specs.Lines.{said, placed, number-cut, name-cut};
-ghost use Rattle.lines.specs.Reading.{read, read-by, name-run, number-run, digit-run, value-after, digit, followed as after-digit, name-field, number-field, read-enrol, read-drop, read-rank, read-two};
+ghost use Rattle.grammar.specs.Reading.{read, read-by, name-run, number-run, digit-run, value-after, digit, followed as after-digit, name-field, number-field, read-enrol, read-drop, read-rank, read-two};
+use std::fmt;
 
 // What a line says. Names are parts of the line.
 #[derive(Clone, Copy)]
@@ -50,6 +54,15 @@ pub enum Line<'a> {
 #[derive(Clone, Copy, PartialEq, Eq, Debug)]
 pub struct Malformed {
     pub place: u8,
+}
+
+pub impl fmt::Display for Malformed as MalformedDisplay {
+    ghost shown = { λ m. Some (codes "refused 12 L " ++ decimal (m .place)) };
+
+    fn fmt<W: fmt::Write>(&self, f: &mut fmt::Formatter<W>) -> fmt::Result {
+        let place = self.place;
+        write!(f, "refused 12 L {place}")
+    }
 }
 
 // The part of a line that is still to be read, and the place where it begins.
@@ -227,6 +240,20 @@ fn two_names(rest: Rest<'_>) -> Result<(&[u8], &[u8]), Malformed>
     let (listener, rest) = rest.name()?;
     rest.end()?;
     Ok((source, listener))
+}
+
+// The first line of a text, without its line feed, and what stands after it.
+pub fn split_line(text: &[u8]) -> (&[u8], &[u8])
+    ensures line { λ r. ⌜ now (r .0) ≡ first-line (now (text .entry)) ⌝ }
+    ensures rest { λ r. ⌜ now (r .1) ≡ after-line (now (text .entry)) ⌝ }
+    ensures shorter { λ r. ⌜ (0 < length (now (text .entry)) → length (now (r .1)) < length (now (text .entry))) ⌝ }
+{
+    for i in 0..text.len() {
+        if text[i] == b'\n' {
+            return (&text[0..i], &text[i + 1..]);
+        }
+    }
+    (text, &text[text.len()..])
 }
 
 // The letter decides how the bytes after it are read.

@@ -1,7 +1,7 @@
 use mathlib.Core.Path.{_≡_}
 use Prim.Native.Nat.{_+_}
 use lib.ListN.{take, drop}
-use Rattle.lines.specs.Reading.{digit-run, value-after}
+use Rattle.grammar.specs.Reading.{digit-run, value-after}
 use Rattle.lines.proofs.leading_digits.Given as given
 
 abbrev pub Inv-loop-x : given.InvT-loop-x

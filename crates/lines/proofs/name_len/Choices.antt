@@ -1,7 +1,7 @@
 use mathlib.Core.Path.{_≡_}
 use Prim.Native.Nat.{_+_, _-_, _≤_}
 use lib.ListN.{drop}
-use Rattle.lines.specs.Reading.{name-run}
+use Rattle.grammar.specs.Reading.{name-run}
 use Rattle.lines.proofs.name_len.Given as given
 
 abbrev pub Inv-loop-x : given.InvT-loop-x

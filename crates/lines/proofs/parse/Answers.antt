@@ -2,7 +2,7 @@ use mathlib.Core.Path.{_∙_}
 use native.Mathlib.Omega.{arith}
 use borrow.Author.Tests.{ltb-true, ltb-false}
 use Rattle.lines.proofs.Letters.{first-letter, no-letter}
-use Rattle.lines.proofs.Theorem.{answer-right, answer-only}
+use Rattle.grammar.proofs.Theorem.{answer-right, answer-only}
 use Rattle.lines.proofs.parse.Needs as need
 
 pub returns-in-rest : need.returns-in-rest

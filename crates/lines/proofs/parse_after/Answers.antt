@@ -2,8 +2,8 @@ use mathlib.Core.Path.{sym, ap, _∙_}
 use Prim.Native.Nat.{ℕ}
 use native.Mathlib.Omega.{arith}
 use Rattle.std.proofs.shelf.Results.{err-from-errBy}
-use Rattle.lines.specs.Grammar.{Pair, Unpair, Hear}
-use Rattle.lines.specs.Reading.{read-by}
+use Rattle.grammar.specs.Grammar.{Pair, Unpair, Hear}
+use Rattle.grammar.specs.Reading.{read-by}
 use Rattle.lines.proofs.Letters.{other-letter}
 use Rattle.lines.proofs.parse_after.Needs as need
 

@@ -4,7 +4,7 @@ use native.Mathlib.Nat.{sub-zero}
 use lib.ListN.{length, take, drop}
 use native.Mathlib.Omega.{arith}
 use borrow.Author.Needs.{needs}
-use Rattle.lines.specs.Reading.{name-run}
+use Rattle.grammar.specs.Reading.{name-run}
 use Rattle.lines.proofs.Cuts.{no-field, a-field}
 use Rattle.lines.proofs.Rest.name.Needs as need
 

@@ -1,7 +1,7 @@
 use mathlib.Core.Path.{sym, _∙_}
 use native.Mathlib.Omega.{arith}
 use borrow.Author.Needs.{needs}
-use Rattle.lines.specs.Reading.{number-run, value-after}
+use Rattle.grammar.specs.Reading.{number-run, value-after}
 use Rattle.lines.proofs.Cuts.{no-field, a-field}
 use Rattle.lines.proofs.Rest.number.Needs as need
 

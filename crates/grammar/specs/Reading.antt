@@ -6,7 +6,7 @@ use lib.Dec.{leb, eqb}
 use lib.ListN.{length, getD, take, drop}
 use Rattle.std.specs.declared.result.Result.{Result}
 use Rattle.std.specs.declared.result.Result.the-variants.{Ok, Err}
-use Rattle.lines.specs.Grammar.{Said, Enrol, Drop, Pair, Unpair, Rank, Hear, name-byte}
+use Rattle.grammar.specs.Grammar.{Said, Enrol, Drop, Pair, Unpair, Rank, Hear, name-byte}
 
 -- How many bytes at the start of the text are a name's, at most so many.
 abbrev pub name-run : ℕ → List ℕ → ℕ

@@ -11,7 +11,7 @@ use Rattle.std.proofs.shelf.Lists.{append-assoc, take-append-drop, length-appen
 use Rattle.std.proofs.shelf.Tests.{eqb-true, eqb-false, ne-eqb}
 use Rattle.std.specs.declared.result.Result.{Result}
 use Rattle.std.specs.declared.result.Result.the-variants.{Ok, Err}
-use Rattle.lines.specs.Reading.{Cut, field, next, ended}
+use Rattle.grammar.specs.Reading.{Cut, field, next, ended}
 
 -- a list of one cut at two places
 pub data Cuts (g t f w : List ℕ) : Type 0 where
@@ -202,10 +202,10 @@ module _ {A X : Type 0} (text : A → List ℕ) (Law : A → Type 0) (run : List
           (this, f .before ++ f .begins .0, this-law, ap (λ (z : List ℕ). 32 ∷ z) (append-assoc front (f .before) (f .begins .0) ∙ ap (λ (z : List ℕ). z ++ (f .before ++ f .begins .0)) (sym this-text)), f .begins .2),
         );
         stops = λ b rest e more x l. f .stops b rest e more x (only (l .0) (l .2) x (l .1) (f .before ++ b ∷ more) (l .4)
-          (sym (tail-same 32 32 ((front ++ f .before) ++ b ∷ more) (text (l .0) ++ l .1) (l .3)) ∙ append-assoc front (f .before) (b ∷ more))
-          (λ c others w. heads (f .before) (f .after) back b c more rest others (f .split) e w));
+            (sym (tail-same 32 32 ((front ++ f .before) ++ b ∷ more) (text (l .0) ++ l .1) (l .3)) ∙ append-assoc front (f .before) (b ∷ more))
+            (λ c others w. heads (f .before) (f .after) back b c more rest others (f .split) e w));
         unlawful = λ x l. f .unlawful x (only (l .0) (l .2) x (l .1) back (l .4)
-          (sym (tail-same 32 32 ys (text (l .0) ++ l .1) (l .3)) ∙ joined) (λ c others w. (others, w)));
+            (sym (tail-same 32 32 ys (text (l .0) ++ l .1) (l .3)) ∙ joined) (λ c others w. (others, w)));
       }
 
   pub field-right : (xs : List ℕ) (p : ℕ) (go : Cut A → Result X ℕ) → ((a : A) (ys : List ℕ) (q : ℕ) → RightOn (M a) ys q (go (a, ys, q))) →

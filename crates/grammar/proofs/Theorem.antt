@@ -12,10 +12,11 @@ use Rattle.std.proofs.shelf.Tests.{eqb-true, eqb-false, eq-eqb, ne-eqb}
 use Rattle.std.specs.Written.{decimal}
 use Rattle.std.specs.declared.result.Result.{Result}
 use Rattle.std.specs.declared.result.Result.the-variants.{Ok, Err}
-use Rattle.lines.specs.Grammar.{Said, Enrol, Drop, Pair, Unpair, Rank, Hear, IsName, letter, fields, spaced, written, Says, Lawful, Begins, Malformed-at, Right}
-use Rattle.lines.specs.Reading.{Cut, name-run, number-run, value-after, name-field, number-field, next, ended, read-enrol, read-drop, read-rank, read-two, read-by, read}
-use Rattle.lines.proofs.Fields.{Kind, RightOn, Ended, ended-right, Fielded, field-right, field-only, Cuts, same, longer, shorter, cut-two, head-same, tail-same, no-cons}
-use Rattle.lines.proofs.Texts.{name-kind, number-kind}
+use Rattle.grammar.specs.Grammar.{Said, Enrol, Drop, Pair, Unpair, Rank, Hear, IsName, letter, fields, spaced, written, Says, Lawful, Begins, Malformed-at, Right}
+use Rattle.grammar.specs.Reading.{Cut, name-run, number-run, value-after, name-field, number-field, next, ended, read-enrol, read-drop, read-rank, read-two, read-by, read}
+use Rattle.grammar.specs.Theorems.{Reading-right}
+use Rattle.grammar.proofs.Fields.{Kind, RightOn, Ended, ended-right, Fielded, field-right, field-only, Cuts, same, longer, shorter, cut-two, head-same, tail-same, no-cons}
+use Rattle.grammar.proofs.Texts.{name-kind, number-kind}
 
 -- what follows a field: nothing, or a space; and something can
 pub record Follows (M : Said → List ℕ → Type 0) : Type 0 where
@@ -147,9 +148,13 @@ hear-to : (x : Said) (ys : List ℕ) → TwoNames Hear x ys → Says (104 ∷ ys
 hear-to x ys (a, t, la, et, (b, u, lb, eu, (is, nil))) = subst (λ (z : Said). Says (104 ∷ ys) z) (sym is) (record { lawful = (la, (lb, tt)); is = cc })
 
 enrol-from : (x : Said) (ys : List ℕ) → Says (101 ∷ ys) x → EnrolFields x ys
-enrol-from (Enrol n a k) ys s =
-    (n, 32 ∷ (a ++ 32 ∷ (decimal k ++ [])), s .lawful .0, sym (tail-same 101 101 (spaced (fields (Enrol n a k))) ys (s .is)),
-    (a, 32 ∷ (decimal k ++ []), s .lawful .1 .0, refl, (k, [], s .lawful .1 .1 .0, refl, (refl, refl))))
+enrol-from (Enrol n a k) ys s = (
+  n,
+  32 ∷ (a ++ 32 ∷ (decimal k ++ [])),
+  s .lawful .0,
+  sym (tail-same 101 101 (spaced (fields (Enrol n a k))) ys (s .is)),
+  (a, 32 ∷ (decimal k ++ []), s .lawful .1 .0, refl, (k, [], s .lawful .1 .1 .0, refl, (refl, refl))),
+)
 enrol-from (Drop a) ys s = absurd (clash (s .is) tt)
 enrol-from (Pair a b) ys s = absurd (clash (s .is) tt)
 enrol-from (Unpair a b) ys s = absurd (clash (s .is) tt)
@@ -327,6 +332,9 @@ right-only line (Ok x) (Ok y) s t = ap (λ (z : Said). Ok z) (says-only x y line
 right-only line (Ok x) (Err q) s t = absurd (t .unlawful (x, s))
 right-only line (Err p) (Ok y) s t = absurd (s .unlawful (y, t))
 right-only line (Err p) (Err q) s t = ap (λ (z : ℕ). Err z) (place-only line p q s t)
+
+pub reading-right : Reading-right
+reading-right = record { right = read-right; only = λ line other o. right-only line other (read line) o (read-right line) }
 
 -- of an answer that is the reading
 pub answer-right : (line : List ℕ) (r : Result Said ℕ) → r ≡ read line → Right line r

@@ -13,9 +13,9 @@ use Rattle.std.proofs.shelf.Tests.{cases-bool, and-parts, and-from, leb-true, l
 use Rattle.std.proofs.shelf.Numerals.{Numerals, numerals-by-fold}
 use Rattle.std.proofs.shelf.Decimals.{decimal-digit, decimal-some, first-decimal, digits-decimal, value-decimal, same-from-decimal, decimal-value}
 use Rattle.std.specs.Written.{decimal}
-use Rattle.lines.specs.Grammar.{IsName, name-byte, every}
-use Rattle.lines.specs.Reading.{name-run, number-run, digit-run, value-after, digit, followed}
-use Rattle.lines.proofs.Fields.{Kind, head-same, tail-same, no-cons}
+use Rattle.grammar.specs.Grammar.{IsName, name-byte, every}
+use Rattle.grammar.specs.Reading.{name-run, number-run, digit-run, value-after, digit, followed}
+use Rattle.grammar.proofs.Fields.{Kind, head-same, tail-same, no-cons}
 
 -- what every byte passes, the byte at a place does
 every-at : (test : ℕ → Bool) (f : List ℕ) (b : ℕ) (g : List ℕ) → every test (f ++ b ∷ g) ≡ true → test b ≡ true
