@@ -3,3 +3,9 @@ pub mod Maps
 pub mod Counting
 pub mod Chains
 pub mod Warshall
+pub mod Least
+pub mod Ranks
+pub mod Core
+pub mod Labels
+pub mod Decide
+pub mod Examples

@@ -3,4 +3,7 @@ pub mod Chains
 pub mod Hearing
 pub mod Counts
 pub mod Ranks
+pub mod Labels
+pub mod Lists
+pub mod Examples
 pub mod Theorems
