@@ -8,4 +8,7 @@ pub mod Ranks
 pub mod Core
 pub mod Labels
 pub mod Decide
+pub mod Hidden
 pub mod Examples
+pub mod Walks
+pub mod Between

@@ -5,5 +5,11 @@ pub mod Counts
 pub mod Ranks
 pub mod Labels
 pub mod Lists
-pub mod Examples
 pub mod Theorems
+pub mod Rows
+pub mod Walks
+pub mod Changes
+pub mod Turns
+pub mod Sizes
+pub mod Whole
+pub mod Examples
