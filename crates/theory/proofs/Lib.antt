@@ -12,3 +12,4 @@ pub mod Hidden
 pub mod Examples
 pub mod Walks
 pub mod Between
+pub mod Frames
