@@ -13,3 +13,4 @@ pub mod Examples
 pub mod Walks
 pub mod Between
 pub mod Frames
+pub mod Lists
