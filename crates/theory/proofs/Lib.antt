@@ -14,3 +14,4 @@ pub mod Walks
 pub mod Between
 pub mod Frames
 pub mod Lists
+pub mod Enrols
