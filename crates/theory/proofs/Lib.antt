@@ -15,3 +15,5 @@ pub mod Between
 pub mod Frames
 pub mod Lists
 pub mod Enrols
+pub mod Tables
+pub mod Turns
