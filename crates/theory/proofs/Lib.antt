@@ -17,3 +17,5 @@ pub mod Lists
 pub mod Enrols
 pub mod Tables
 pub mod Turns
+pub mod Sizes
+pub mod Totals
