@@ -14,7 +14,7 @@ use Rattle.theory.specs.Ranks.{rankIn, Once, Orders}
 use Rattle.theory.specs.Labels.{InLabel, OutLabel}
 use Rattle.theory.specs.Lists.{picked, ListOf, inLabels, outLabels, sum, total, differing, either, labels-changed}
 use Rattle.theory.specs.Rows.{Rows, Right, AllRight}
-use Rattle.theory.specs.Sizes.{Stands, Changed, Number, rows-total, oneOf, rows-changed, Total-counted, Changed-counted, Counted-by-rows}
+use Rattle.theory.specs.Sizes.{Stands, Changed, Number, rows-total, oneOf, rows-changed, Total-counted, Changed-counted, Total-by-rows, Changed-by-rows}
 use Rattle.theory.proofs.Tests.{decided}
 use Rattle.theory.proofs.Maps.{turned-sound, turned-orders}
 use Rattle.theory.proofs.Chains.{heard-first, heard-last}
@@ -103,3 +103,62 @@ changed-counted m sm order om n sn after on =
     (λ v. differing-number (by-list .outs v) (by-list .outs-only v) (outLabels m order v) (outLabels n after v) (in-once (turned m) sm′ order om′ v) (in-once (turned n) sn′ after on′ v))
     (Changed m (rankIn order) n (rankIn after)) (either order after) (once-either order after (om .once) (on .once))
     (λ v u. in-changed m sm order om n sn after on u v) (λ v u. in-changed (turned m) sm′ order om′ (turned n) sn′ after on′ u v)
+
+-- the ends of a label
+module _ (m : Map) (sound : Sound m) (rank : ℕ → ℕ) where
+  label-ends : (u v : ℕ) → InLabel m rank u v → T (m .unit u) × (v < 256)
+  label-ends u v l =
+      let k = sound .high v (heard-last m sound u v (l .heard)) in
+      let low : v < 256 = omega arith in
+      (heard-first m sound u v (l .heard), low)
+
+pub total-by-rows : Total-by-rows
+unfolding rows-total count by-row
+total-by-rows m sound order orders rows right =
+    number-alone (Stands m (rankIn order)) (rows-total rows order) (total m order)
+    (counted by-row (λ u v. (v < 256) × T (rows .ins u v)) (λ u v. (v < 256) × T (rows .outs u v)) (λ u. count (rows .ins u)) (λ u. count (rows .outs u))
+    (λ u. row-number (by-row .ins u) (by-row .ins-only u) (rows .ins u) 256) (λ u. row-number (by-row .outs u) (by-row .outs-only u) (rows .outs u) 256)
+    (Stands m (rankIn order)) order (orders .once)
+    (λ u v. (
+      λ l. let e = label-ends m sound (rankIn order) u v l in let o = orders .every u (e .0) in (o, (e .1, says-in m sound (rankIn order) rows u (right u o) v .1 l)),
+      λ (o, i). says-in m sound (rankIn order) rows u (right u o) v .0 (i .1),
+    ))
+    (λ u v. (
+      λ l. let e = label-ends (turned m) (turned-sound m sound) (rankIn order) u v l in let o = orders .every u (e .0) in (o, (e .1, says-out m sound (rankIn order) rows u (right u o) v .1 l)),
+      λ (o, i). says-out m sound (rankIn order) rows u (right u o) v .0 (i .1),
+    )))
+    (total-counted m sound order orders)
+
+one-of : (a b : Bool) (P Q : Type 0) → T a ↔ P → T b ↔ Q → T (oneOf a b) ↔ OneSide P Q
+one-of true true P Q p q = (λ t. absurd t, ⊎-elim (λ k. k .1 (q .0 tt)) (λ k. k .0 (p .0 tt)))
+one-of true false P Q p q = (λ t. inl (p .0 tt, q .1), λ k. tt)
+one-of false true P Q p q = (λ t. inr (p .1, q .0 tt), λ k. tt)
+one-of false false P Q p q = (λ t. absurd t, ⊎-elim (λ k. p .1 (k .0)) (λ k. q .1 (k .1)))
+
+pub changed-by-rows : Changed-by-rows
+unfolding rows-changed count by-row
+changed-by-rows m sm order om n sn after on units once um un old new right-old right-new =
+    number-alone (Changed m rank n rate) (rows-changed old new units) (labels-changed m order n after)
+    (counted by-row (λ u v. (v < 256) × T (oneOf (old .ins u v) (new .ins u v))) (λ u v. (v < 256) × T (oneOf (old .outs u v) (new .outs u v)))
+    (λ u. count (λ v. oneOf (old .ins u v) (new .ins u v))) (λ u. count (λ v. oneOf (old .outs u v) (new .outs u v)))
+    (λ u. row-number (by-row .ins u) (by-row .ins-only u) (λ v. oneOf (old .ins u v) (new .ins u v)) 256)
+    (λ u. row-number (by-row .outs u) (by-row .outs-only u) (λ v. oneOf (old .outs u v) (new .outs u v)) 256)
+    (Changed m rank n rate) units once
+    (λ u v. sided u v (InLabel m rank u v) (InLabel n rate u v) (label-ends m sm rank u v) (label-ends n sn rate u v) (old .ins u v) (new .ins u v)
+    (λ o. says-in m sm rank old u (right-old u o) v) (λ o. says-in n sn rate new u (right-new u o) v))
+    (λ u v. sided u v (OutLabel m rank u v) (OutLabel n rate u v) (label-ends (turned m) (turned-sound m sm) rank u v) (label-ends (turned n) (turned-sound n sn) rate u v) (old .outs u v) (new .outs u v)
+    (λ o. says-out m sm rank old u (right-old u o) v) (λ o. says-out n sn rate new u (right-new u o) v)))
+    (changed-counted m sm order om n sn after on)
+  where
+    rank : ℕ → ℕ
+    rank = rankIn order
+
+    rate : ℕ → ℕ
+    rate = rankIn after
+
+    sided : (u v : ℕ) (P Q : Type 0) → (P → T (m .unit u) × (v < 256)) → (Q → T (n .unit u) × (v < 256)) → (a b : Bool) → (On u units → T a ↔ P) → (On u units → T b ↔ Q) → OneSide P Q ↔ (On u units × ((v < 256) × T (oneOf a b)))
+    sided u v P Q ends ends′ a b p q = (
+      λ k. let e : On u units × (v < 256) = ⊎-elim (λ i. let r = ends (i .0) in (um u (r .0), r .1)) (λ i. let r = ends′ (i .1) in (un u (r .0), r .1)) k in
+          (e .0, (e .1, one-of a b P Q (p (e .0)) (q (e .0)) .1 k)),
+      λ (o, i). one-of a b P Q (p o) (q o) .0 (i .1),
+    )

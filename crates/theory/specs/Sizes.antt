@@ -69,13 +69,18 @@ oneOf a b = (a && not b) || (not a && b)
 unfoldable pub rows-changed : Rows → Rows → List ℕ → ℕ
 rows-changed old new units = sum units (λ u. count (λ v. oneOf (old .ins u v) (new .ins u v)) + count (λ v. oneOf (old .outs u v) (new .outs u v)))
 
--- By right rows, the total of labels and the number of changed ones. The list of units has every unit of both maps.
-abbrev pub Counted-by-rows : Type 0
-Counted-by-rows =
-    (m : Map) → Sound m → (order : List ℕ) → Orders m order → (old : Rows) → AllRight m order old → (rows-total old order ≡ total m order) ×
-    ((n : Map) → Sound n → (after : List ℕ) → Orders n after → (units : List ℕ) → Once units → ((u : ℕ) → On u order → On u units) →
-    ((u : ℕ) → On u after → On u units) → (new : Rows) → ((u : ℕ) → On u units → Right m (rankIn order) old u) →
-    ((u : ℕ) → On u units → Right n (rankIn after) new u) → rows-changed old new units ≡ labels-changed m order n after)
+-- By right rows, the total is the size of the rows.
+abbrev pub Total-by-rows : Type 0
+Total-by-rows =
+    (m : Map) → Sound m → (order : List ℕ) → Orders m order → (rows : Rows) → AllRight m order rows → rows-total rows order ≡ total m order
+
+-- By right rows before and after, the number of changed labels is by how much the rows differ. The list has every unit of both maps, each once.
+abbrev pub Changed-by-rows : Type 0
+Changed-by-rows =
+    (m : Map) → Sound m → (order : List ℕ) → Orders m order → (n : Map) → Sound n → (after : List ℕ) → Orders n after →
+    (units : List ℕ) → Once units → ((u : ℕ) → T (m .unit u) → On u units) → ((u : ℕ) → T (n .unit u) → On u units) →
+    (old new : Rows) → ((u : ℕ) → On u units → Right m (rankIn order) old u) → ((u : ℕ) → On u units → Right n (rankIn after) new u) →
+    rows-changed old new units ≡ labels-changed m order n after
 
 -- Without rings there are at most 32385 labels: 255 units have so many pairs, and no pair has two labels.
 abbrev pub Labels-bounded : Type 0
