@@ -19,3 +19,4 @@ pub mod Tables
 pub mod Turns
 pub mod Sizes
 pub mod Totals
+pub mod Whole
