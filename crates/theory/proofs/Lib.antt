@@ -20,3 +20,4 @@ pub mod Turns
 pub mod Sizes
 pub mod Totals
 pub mod Whole
+pub mod Cover

@@ -37,7 +37,7 @@ once-picked f (x ∷ xs) h = go (f x) (once-picked f xs (h .1))
     go true ih = (λ o. h .0 (on-picked f xs x .0 o .0), ih)
     go false ih = ih
 
-ascending-picked : (rank : ℕ → ℕ) (f : ℕ → Bool) (xs : List ℕ) → Ascending rank xs → Ascending rank (picked f xs)
+pub ascending-picked : (rank : ℕ → ℕ) (f : ℕ → Bool) (xs : List ℕ) → Ascending rank xs → Ascending rank (picked f xs)
 ascending-picked rank f [] h = tt
 ascending-picked rank f (x ∷ xs) h = go (f x) (ascending-picked rank f xs (h .1))
   where
