@@ -21,3 +21,4 @@ pub mod Sizes
 pub mod Totals
 pub mod Whole
 pub mod Cover
+pub mod Local

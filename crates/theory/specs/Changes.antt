@@ -82,3 +82,40 @@ abbrev pub Rank-frame : Type 0
 Rank-frame =
     (m : Map) → Sound m → (order : List ℕ) (v k : ℕ) →
     Frame m (rankIn order) m (rankIn (moved k v order)) (λ u. Heard m u v) (λ w. Heard m v w)
+
+-- From the one map and order to the other the lists of labels, in their order, stay as they are, but for the out-labels and in-holders of a unit of A,
+-- and for the in-labels and out-holders of a unit of D.
+pub record Local (m : Map) (order : List ℕ) (n : Map) (after : List ℕ) (A D : ℕ → Type 0) : Type 0 where
+  pub in-labels : (v : ℕ) → (D v → ⊥) → inLabels m order v ≡ inLabels n after v
+  pub out-labels : (u : ℕ) → (A u → ⊥) → outLabels m order u ≡ outLabels n after u
+  pub in-holders : (u : ℕ) → (A u → ⊥) → inHolders m order u ≡ inHolders n after u
+  pub out-holders : (v : ℕ) → (D v → ⊥) → outHolders m order v ≡ outHolders n after v
+
+-- A pairing of a to b, added or taken away, alters in-labels only of units that hear b, and out-labels only of units that a hears.
+abbrev pub Pair-local : Type 0
+Pair-local =
+    (m : Map) → Sound m → (order : List ℕ) → Orders m order → (a b : ℕ) → T (m .unit a) → T (m .unit b) → a ≢ b →
+    Local m order (with-pair a b m) order (λ u. Heard m u a) (λ v. Heard m b v)
+
+abbrev pub Unpair-local : Type 0
+Unpair-local =
+    (m : Map) → Sound m → (order : List ℕ) → Orders m order → (a b : ℕ) →
+    Local m order (without-pair a b m) order (λ u. Heard m u a) (λ v. Heard m b v)
+
+-- A unit x that is dropped or moved alters in-labels only of units that hear it, and out-labels only of units that it hears.
+abbrev pub Drop-local : Type 0
+Drop-local =
+    (m : Map) → Sound m → (order : List ℕ) → Orders m order → (x : ℕ) →
+    Local m order (without-unit x m) (removed x order) (λ u. Heard m u x) (λ v. Heard m x v)
+
+abbrev pub Rank-local : Type 0
+Rank-local =
+    (m : Map) → Sound m → (order : List ℕ) → Orders m order → (x : ℕ) → T (m .unit x) → (k : ℕ) →
+    Local m order m (moved k x order) (λ u. Heard m u x) (λ v. Heard m x v)
+
+-- A unit x that is enrolled, only of units that then hear it, and of units that it then hears.
+abbrev pub Enrol-local : Type 0
+Enrol-local =
+    (m : Map) → Sound m → (order : List ℕ) → Orders m order → (x : ℕ) (sources listeners : List ℕ) → New m x sources listeners → (k : ℕ) →
+    Local m order (enrolled x sources listeners m) (inserted k x order)
+    (λ u. Heard (enrolled x sources listeners m) u x) (λ v. Heard (enrolled x sources listeners m) x v)
