@@ -22,3 +22,4 @@ pub mod Totals
 pub mod Whole
 pub mod Cover
 pub mod Local
+pub mod Bounds

@@ -71,7 +71,7 @@ number-both P Q R a b p q far r = record {
   size = omega (arith, length-append (p .list) (q .list), p .size, q .size);
 }
 
-number-same : (P Q : Label → Type 0) (n : ℕ) → ((l : Label) → Q l ↔ P l) → Number P n → Number Q n
+pub number-same : (P Q : Label → Type 0) (n : ℕ) → ((l : Label) → Q l ↔ P l) → Number P n → Number Q n
 number-same P Q n same p = record {
   list = p .list;
   every = λ l k. p .every l (same l .0 k);
