@@ -2,7 +2,7 @@
 use mathlib.Core.Path.{_≡_}
 use mathlib.Core.List.{List, [], _∷_}
 use mathlib.Core.Logic.{_⊎_}
-use Prim.Native.Nat.{ℕ, _≤_}
+use Prim.Native.Nat.{ℕ, suc, _≤_}
 use lib.Dec.{T}
 use lib.ListN.{length}
 use Rattle.theory.specs.Maps.{Map}
@@ -33,3 +33,8 @@ Ring m u c = Chain m u u c × (2 ≤ length c)
 
 abbrev pub NoRing : Map → Type 0
 NoRing m = (u : ℕ) (c : List ℕ) → Ring m u c → ⊥
+
+-- n is the fewest pairings on any chain from s to t; a chain has one pairing less than units.
+pub record Fewest (m : Map) (s t n : ℕ) : Type 0 where
+  pub some : (c : List ℕ) × Chain m s t c × (length c ≡ suc n)
+  pub none : (c : List ℕ) → Chain m s t c → suc n ≤ length c
