@@ -9,7 +9,7 @@ pub mod Core
 pub mod Labels
 pub mod Decide
 pub mod Hidden
-pub mod Examples
+pub mod Computed
 pub mod Walks
 pub mod Between
 pub mod Frames
@@ -20,6 +20,6 @@ pub mod Turns
 pub mod Sizes
 pub mod Totals
 pub mod Whole
-pub mod Cover
+pub mod Shared
 pub mod Local
 pub mod Bounds
