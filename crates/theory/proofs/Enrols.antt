@@ -29,8 +29,8 @@ module _ (m : Map) (sound : Sound m) (x : ℕ) (sources listeners : List ℕ) (n
   abbrev Cases : ℕ → ℕ → Type 0
   Cases a b = T (m .pair a b) ⊎ ((On a sources × (b ≡ x)) ⊎ ((a ≡ x) × On b listeners))
 
-  grown-cases : (a b : ℕ) → T (Grown .pair a b) → Cases a b
-  grown-cases a b t =
+  pub enrolled-cases : (a b : ℕ) → T (enrolled x sources listeners m .pair a b) → T (m .pair a b) ⊎ ((On a sources × (b ≡ x)) ⊎ ((a ≡ x) × On b listeners))
+  enrolled-cases a b t =
       ⊎-elim (λ q. inr (⊎-map (λ p. (listed-on a sources .0 (and-fst (listed a sources) (eqb b x) p), eqb→eq b x (and-snd (listed a sources) (eqb b x) p)))
       (λ p. (eqb→eq a x (and-fst (eqb a x) (listed b listeners) p), listed-on b listeners .0 (and-snd (eqb a x) (listed b listeners) p)))
       (or-either (listed a sources && eqb b x) (eqb a x && listed b listeners) q)))
@@ -39,10 +39,10 @@ module _ (m : Map) (sound : Sound m) (x : ℕ) (sources listeners : List ℕ) (n
   old-pair : (a b : ℕ) → T (m .pair a b) → T (Grown .pair a b)
   old-pair a b t = or-snd ((listed a sources && eqb b x) || (eqb a x && listed b listeners)) (m .pair a b) t
 
-  source-pair : (s : ℕ) → On s sources → T (Grown .pair s x)
+  pub source-pair : (s : ℕ) → On s sources → T (enrolled x sources listeners m .pair s x)
   source-pair s o = or-fst _ (m .pair s x) (or-fst (listed s sources && eqb x x) (eqb s x && listed x listeners) (and-both (listed s sources) (eqb x x) (listed-on s sources .1 o) (eqb-refl x)))
 
-  listener-pair : (t : ℕ) → On t listeners → T (Grown .pair x t)
+  pub listener-pair : (t : ℕ) → On t listeners → T (enrolled x sources listeners m .pair x t)
   listener-pair t o = or-fst _ (m .pair x t) (or-snd (listed x sources && eqb t x) (eqb x x && listed t listeners) (and-both (eqb x x) (listed t listeners) (eqb-refl x) (listed-on t listeners .1 o)))
 
   unit-cases : (y : ℕ) → T (Grown .unit y) → (y ≡ x) ⊎ T (m .unit y)
@@ -55,7 +55,7 @@ module _ (m : Map) (sound : Sound m) (x : ℕ) (sources listeners : List ℕ) (n
   new-unit y e = or-fst (eqb y x) (m .unit y) (same-eqb y x e)
 
   next-unit : (a b : ℕ) → T (Grown .pair a b) → T (Grown .unit b)
-  next-unit a b t = ⊎-elim (λ p. old-unit b (sound .to a b p)) (⊎-elim (λ p. new-unit b (p .1)) (λ p. old-unit b (new .to b (p .1)))) (grown-cases a b t)
+  next-unit a b t = ⊎-elim (λ p. old-unit b (sound .to a b p)) (⊎-elim (λ p. new-unit b (p .1)) (λ p. old-unit b (new .to b (p .1)))) (enrolled-cases a b t)
 
   not-new : (y : ℕ) → T (m .unit y) → y ≡ x → ⊥
   not-new y t e = new .fresh (subst (λ z. T (m .unit z)) e t)
@@ -64,9 +64,9 @@ module _ (m : Map) (sound : Sound m) (x : ℕ) (sources listeners : List ℕ) (n
   enrolled-sound = record {
     low = λ u t. let lo = new .low in ⊎-elim (λ e. omega arith) (sound .low u) (unit-cases u t);
     high = λ u t. let hi = new .high in ⊎-elim (λ e. omega arith) (sound .high u) (unit-cases u t);
-    from = λ a b t. ⊎-elim (λ p. old-unit a (sound .from a b p)) (⊎-elim (λ p. old-unit a (new .from a (p .0))) (λ p. new-unit a (p .0))) (grown-cases a b t);
+    from = λ a b t. ⊎-elim (λ p. old-unit a (sound .from a b p)) (⊎-elim (λ p. old-unit a (new .from a (p .0))) (λ p. new-unit a (p .0))) (enrolled-cases a b t);
     to = next-unit;
-    apart = λ a b t. ⊎-elim (sound .apart a b) (⊎-elim (λ p e. not-new a (new .from a (p .0)) (e ∙ p .1)) (λ p e. not-new b (new .to b (p .1)) (sym e ∙ p .0))) (grown-cases a b t);
+    apart = λ a b t. ⊎-elim (sound .apart a b) (⊎-elim (λ p e. not-new a (new .from a (p .0)) (e ∙ p .1)) (λ p e. not-new b (new .to b (p .1)) (sym e ∙ p .0))) (enrolled-cases a b t);
   }
 
   -- without the new unit it is the map that it was
@@ -75,7 +75,7 @@ module _ (m : Map) (sound : Sound m) (x : ℕ) (sources listeners : List ℕ) (n
       let ends = hidden-sound (λ y. eqb y x) Grown enrolled-sound in
       let na = clear-unit (λ y. eqb y x) Grown a (ends .from a b t) in
       let nb = clear-unit (λ y. eqb y x) Grown b (ends .to a b t) in
-      ⊎-elim (λ p. p) (⊎-elim (λ p. absurd (nb (same-eqb b x (p .1)))) (λ p. absurd (na (same-eqb a x (p .0))))) (grown-cases a b (shown-pair (λ y. eqb y x) Grown a b t))
+      ⊎-elim (λ p. p) (⊎-elim (λ p. absurd (nb (same-eqb b x (p .1)))) (λ p. absurd (na (same-eqb a x (p .0))))) (enrolled-cases a b (shown-pair (λ y. eqb y x) Grown a b t))
 
   pair-kept : (a b : ℕ) → T (m .pair a b) → T (without-unit x Grown .pair a b)
   pair-kept a b t = kept-pair (λ y. eqb y x) Grown a b (old-pair a b t) (λ k. not-new a (sound .from a b t) (eqb→eq a x k)) (λ k. not-new b (sound .to a b t) (eqb→eq b x k))
@@ -86,17 +86,17 @@ module _ (m : Map) (sound : Sound m) (x : ℕ) (sources listeners : List ℕ) (n
   unit-kept : (y : ℕ) → T (m .unit y) → T (without-unit x Grown .unit y)
   unit-kept y t = kept-unit (λ z. eqb z x) Grown y (old-unit y t) (λ k. not-new y t (eqb→eq y x k))
 
-  enrolled-dropped : without-unit x (enrolled x sources listeners m) ≡ m
+  pub enrolled-dropped : without-unit x (enrolled x sources listeners m) ≡ m
   enrolled-dropped =
       same-map (without-unit x Grown) m (λ y. same-tests (without-unit x Grown .unit y) (m .unit y) (dropped-unit y) (unit-kept y))
       (λ a b. same-tests (without-unit x Grown .pair a b) (m .pair a b) (dropped-pair a b) (pair-kept a b))
 
-  old-heard : (s t : ℕ) → Heard m s t → Heard Grown s t
+  pub old-heard : (s t : ℕ) → Heard m s t → Heard (enrolled x sources listeners m) s t
   old-heard s t h = show (λ y. eqb y x) Grown s t (subst (λ n. Heard n s t) (sym enrolled-dropped) h)
 
   area-sources : (u : ℕ) (c : List ℕ) → Onward Grown u c x → (u ≡ x) ⊎ ((s : ℕ) × On s sources × Heard m u s)
   area-sources u [] e = inl e
-  area-sources u (y ∷ c) h = go (grown-cases u y (h .0)) (area-sources y c (h .1))
+  area-sources u (y ∷ c) h = go (enrolled-cases u y (h .0)) (area-sources y c (h .1))
     where
       go : Cases u y → (y ≡ x) ⊎ ((s : ℕ) × On s sources × Heard m y s) → (u ≡ x) ⊎ ((s : ℕ) × On s sources × Heard m u s)
       go (inl p) (inl e) = absurd (not-new y (sound .to u y p) e)
@@ -107,7 +107,7 @@ module _ (m : Map) (sound : Sound m) (x : ℕ) (sources listeners : List ℕ) (n
   -- from a unit of the old map or from x: with no x on the way, or on from the last x
   area-listeners : (s u : ℕ) (c : List ℕ) → T (Grown .unit s) → Onward Grown s c u → Heard m s u ⊎ ((u ≡ x) ⊎ ((t : ℕ) × On t listeners × Heard m t u))
   area-listeners s u [] k e = ⊎-elim (λ p. inr (inl (sym e ∙ p))) (λ p. inl (subst (λ z. Heard m s z) e (heard-self m s p))) (unit-cases s k)
-  area-listeners s u (y ∷ c) k h = go (grown-cases s y (h .0)) (area-listeners y u c (next-unit s y (h .0)) (h .1))
+  area-listeners s u (y ∷ c) k h = go (enrolled-cases s y (h .0)) (area-listeners y u c (next-unit s y (h .0)) (h .1))
     where
       go : Cases s y → Heard m y u ⊎ ((u ≡ x) ⊎ ((t : ℕ) × On t listeners × Heard m t u)) → Heard m s u ⊎ ((u ≡ x) ⊎ ((t : ℕ) × On t listeners × Heard m t u))
       go p (inr r) = inr r

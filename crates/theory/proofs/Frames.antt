@@ -39,7 +39,7 @@ module _ (big small : Map) (sb : Sound big) (ss : Sound small) (a b : ℕ) (extr
       go (inr (p, q)) (inl k) = inr (subst (λ z. Heard small s z) p (heard-self small s u), subst (λ z. Heard small z t) q k)
       go (inr (p, q)) (inr (k, j)) = inr (subst (λ z. Heard small s z) p (heard-self small s u), j)
 
-  detour : (s t : ℕ) → Heard big s t → Heard small s t ⊎ (Heard small s a × Heard small b t)
+  pub detour : (s t : ℕ) → Heard big s t → Heard small s t ⊎ (Heard small s a × Heard small b t)
   detour s t h = let g = goes big s t h in detour-onward s t (g .1 .0) (extra .down s (g .0)) (g .1 .1)
 
   up-onward : (s t : ℕ) (c : List ℕ) → Onward small s c t → Onward big s c t
@@ -82,13 +82,16 @@ module _ (m : Map) (sound : Sound m) (a b : ℕ) (ua : T (m .unit a)) (ub : T (m
     apart = λ x y p. ⊎-elim (sound .apart x y) (λ e k. ne (sym (e .0) ∙ k ∙ e .1)) (with-pair-cases x y p);
   }
 
-  with-pair-extra : Extra (with-pair a b m) m a b
+  pub with-pair-extra : Extra (with-pair a b m) m a b
   with-pair-extra = record {
     up = λ x t. t;
     down = λ x t. t;
     pair-up = λ x y t. or-snd (eqb x a && eqb y b) (m .pair x y) t;
     pair-down = with-pair-cases;
   }
+
+pub with-pair-here : (m : Map) (a b : ℕ) → T (with-pair a b m .pair a b)
+with-pair-here m a b = or-fst (eqb a a && eqb b b) (m .pair a b) (and-both (eqb a a) (eqb b b) (eqb-refl a) (eqb-refl b))
 
 pub pair-frame : Pair-frame
 pair-frame m sound a b ua ub ne rank u v far =
@@ -100,7 +103,7 @@ pair-full m sound a b ua ub ne u v h k =
     let n = with-pair a b m in
     let sw = with-pair-sound m sound a b ua ub ne in
     let up = heard-up n m sw sound a b (with-pair-extra m sound a b ua ub ne) in
-    heard-trans n u a v (up u a h) (heard-trans n a b v (heard-pair n sw a b (or-fst (eqb a a && eqb b b) (m .pair a b) (and-both (eqb a a) (eqb b b) (eqb-refl a) (eqb-refl b)))) (up b v k))
+    heard-trans n u a v (up u a h) (heard-trans n a b v (heard-pair n sw a b (with-pair-here m a b)) (up b v k))
 
 module _ (m : Map) (sound : Sound m) (a b : ℕ) where
   without-pair-less : (x y : ℕ) → T (without-pair a b m .pair x y) → T (m .pair x y)
@@ -122,7 +125,7 @@ module _ (m : Map) (sound : Sound m) (a b : ℕ) where
       go (yes k) = inr (eqb→eq x a (and-fst (eqb x a) (eqb y b) k), eqb→eq y b (and-snd (eqb x a) (eqb y b) k))
       go (no k) = inl (and-both (not (eqb x a && eqb y b)) (m .pair x y) (not-T (eqb x a && eqb y b) k) t)
 
-  without-pair-extra : Extra m (without-pair a b m) a b
+  pub without-pair-extra : Extra m (without-pair a b m) a b
   without-pair-extra = record { up = λ x t. t; down = λ x t. t; pair-up = without-pair-less; pair-down = without-pair-cases }
 
 pub unpair-frame : Unpair-frame

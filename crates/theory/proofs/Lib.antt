@@ -23,3 +23,4 @@ pub mod Whole
 pub mod Shared
 pub mod Local
 pub mod Bounds
+pub mod Rings

@@ -9,6 +9,7 @@ pub mod Theorems
 pub mod Rows
 pub mod Walks
 pub mod Changes
+pub mod Rings
 pub mod Turns
 pub mod Sizes
 pub mod Whole

@@ -3,6 +3,7 @@
 ghost use Rattle.theory.specs.Theorems.{Hearing-decided, Hearing-reflexive, Hearing-transitive, On-a-chain, Labels-decided, Lists-told, Cover, Highest-shared, Minimal-in, Minimal-out};
 ghost use Rattle.theory.specs.Examples.{Examples};
 ghost use Rattle.theory.specs.Changes.{Changes-sound, Pair-frame, Unpair-frame, Pair-area, Drop-frame, Enrol-frame, Enrol-area, Rank-frame, Pair-local, Unpair-local, Drop-local, Enrol-local, Rank-local};
+ghost use Rattle.theory.specs.Rings.{Rings-kept-out};
 ghost use Rattle.theory.specs.Walks.{Label-at-an-end, Highest-listed, Reached-by-rows, Row-by-cover, Row-by-walk, Hidden-turned, Walk-done, Next-row, Reached-by-tables};
 ghost use Rattle.theory.specs.Turns.{Relabelled, Frame-settled, Row-by-sets, Pair-full};
 ghost use Rattle.theory.specs.Sizes.{Number-told, Total-counted, Changed-counted, Total-by-rows, Changed-by-rows, Labels-bounded};
@@ -94,6 +95,13 @@ pub fn examples() -> u8
 // A change leaves a sound map and an order of it.
 pub fn changes_sound() -> u8
     ensures { λ _. ⌜ Changes-sound ⌝ }
+{
+    0
+}
+
+// Which changes make a ring.
+pub fn rings_kept_out() -> u8
+    ensures { λ _. ⌜ Rings-kept-out ⌝ }
 {
     0
 }
