@@ -1,20 +1,19 @@
 -- Without rings a unit has at most one label for each higher unit: so many labels as pairs of units, and there are at most 255 units.
-use mathlib.Core.Path.{_≡_, refl, sym, subst, ap, _∙_}
+use mathlib.Core.Path.{_≡_, refl, sym, subst, ap}
 use mathlib.Core.Bool.{Bool, true, false, cond}
 use mathlib.Core.List.{List, [], _∷_, _++_}
-use mathlib.Core.Logic.{_≢_, _⊎_, inl, inr, ⊎-elim}
+use mathlib.Core.Logic.{_≢_, inl, inr}
 use Prim.Native.Nat.{ℕ, zero, suc, _+_, _-_, _≤_, _<_}
 use native.Mathlib.Omega.{arith}
 use lib.Dec.{T, ltb, ltb→lt, lt→ltb}
 use lib.ListN.{length}
-use Rattle.std.proofs.shelf.Tests.{cases-eq}
-use Rattle.theory.specs.Maps.{Map, Sound, turned, listed}
+use Rattle.theory.specs.Maps.{Map, turned, listed}
 use Rattle.theory.specs.Chains.{Onward, On, Heard, NoRing}
 use Rattle.theory.specs.Counts.{sum-below, one}
-use Rattle.theory.specs.Ranks.{rankIn, Once, Orders}
+use Rattle.theory.specs.Ranks.{rankIn, Once}
 use Rattle.theory.specs.Labels.{InLabel, isInLabel}
 use Rattle.theory.specs.Lists.{picked, inLabels, outLabels, sum, total}
-use Rattle.theory.specs.Sizes.{inward, Number, Labels-bounded}
+use Rattle.theory.specs.Sizes.{inward, Labels-bounded}
 use Rattle.theory.proofs.Tests.{same-tests}
 use Rattle.theory.proofs.Maps.{turned-sound}
 use Rattle.theory.proofs.Chains.{goes, onward-append, heard-turned}
@@ -51,9 +50,9 @@ few f (suc n) far = let rest = few f n far in let here = most (f (suc n)) in ome
 at-most-255 : (xs : List ℕ) → Once xs → ((x : ℕ) → On x xs → (1 ≤ x) × (x ≤ 255)) → length xs ≤ 255
 at-most-255 xs once range =
     let e = number-alone (Made (inward 0) (λ x. On x xs)) (length xs) (sum-below (λ k. one (listed k xs)) 256) (list-number (inward 0) (λ x y e. cc) xs once)
-            (number-same (Made (inward 0) (λ x. (x < 256) × T (listed x xs))) (Made (inward 0) (λ x. On x xs)) (sum-below (λ k. one (listed k xs)) 256)
-            (λ l. (λ (x, o, g). let r = range x o in let low : x < 256 = omega arith in (x, (low, listed-on x xs .1 o), g), λ (x, i, g). (x, listed-on x xs .0 (i .1), g)))
-            (row-number (inward 0) (λ x y e. cc) (λ k. listed k xs) 256)) in
+    (number-same (Made (inward 0) (λ x. (x < 256) × T (listed x xs))) (Made (inward 0) (λ x. On x xs)) (sum-below (λ k. one (listed k xs)) 256)
+    (λ l. (λ (x, o, g). let r = range x o in let low : x < 256 = omega arith in (x, (low, listed-on x xs .1 o), g), λ (x, i, g). (x, listed-on x xs .0 (i .1), g)))
+    (row-number (inward 0) (λ x y e. cc) (λ k. listed k xs) 256)) in
     let few255 : sum-below (λ k. one (listed k xs)) 256 ≤ 255 = few (λ k. listed k xs) 255 (λ t. let r = range 0 (listed-on 0 xs .0 t) in omega arith) in
     omega arith
 
@@ -163,12 +162,12 @@ labels-bounded m sound none order orders =
     at : (v : ℕ) → On v order → length (inLabels m order v) + length (outLabels m order v) ≤ rankIn order v - 1
     at v o =
         let two = picked-two (λ u. isInLabel m (rankIn order) u v) (λ u. isInLabel (turned m) (rankIn order) u v) (λ u. ltb (rankIn order u) (rankIn order v)) order
-                  (λ u t. lt→ltb (rankIn order u) (rankIn order v) (ins u t .higher)) (λ u t. lt→ltb (rankIn order u) (rankIn order v) (outs u t .higher))
-                  (λ u t k. one-way m none u v (apart u (ins u t .higher)) (ins u t .heard) (heard-turned m sound u v .0 (outs u k .heard))) in
+        (λ u t. lt→ltb (rankIn order u) (rankIn order v) (ins u t .higher)) (λ u t. lt→ltb (rankIn order u) (rankIn order v) (outs u t .higher))
+        (λ u t k. one-way m none u v (apart u (ins u t .higher)) (ins u t .heard) (heard-turned m sound u v .0 (outs u k .heard))) in
         let pos = rank-pos order v in
         let last : rankIn order v ≡ suc (rankIn order v - 1) = omega arith in
         let higher : length (picked (λ u. ltb (rankIn order u) (rankIn order v)) order) ≤ rankIn order v - 1 =
-                subst (λ r. length (picked (λ u. ltb (rankIn order u) r) order) ≤ rankIn order v - 1) (sym last) (higher-few order (orders .once) (rankIn order v - 1)) in
+        subst (λ r. length (picked (λ u. ltb (rankIn order u) r) order) ≤ rankIn order v - 1) (sym last) (higher-few order (orders .once) (rankIn order v - 1)) in
         omega arith
       where
         ins : (u : ℕ) → T (isInLabel m (rankIn order) u v) → InLabel m (rankIn order) u v

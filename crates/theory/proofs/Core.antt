@@ -1,10 +1,10 @@
 -- Labels over any decidable relation that is transitive, and reflexive where it holds at all.
 -- H s t says that t hears s; H u u that u is a unit.
-use mathlib.Core.Path.{_≡_, refl, subst, sym, ap}
-use mathlib.Core.Logic.{_↔_, _≢_, _⊎_, inl, inr, ⊎-elim}
+use mathlib.Core.Path.{_≡_, subst, sym, ap}
+use mathlib.Core.Logic.{_↔_, _≢_, _⊎_, inl, inr}
 use Prim.Native.Nat.{ℕ, _≤_, _<_}
 use native.Mathlib.Omega.{arith}
-use Rattle.std.proofs.shelf.Tests.{cases-eq, cases-lt}
+use Rattle.std.proofs.shelf.Tests.{cases-eq}
 use Rattle.theory.proofs.Least.{Search, least}
 
 pub record Hearing (H : ℕ → ℕ → Type 0) (rank : ℕ → ℕ) : Type 0 where

@@ -1,5 +1,5 @@
 -- Chains of a map with hidden units, there and back.
-use mathlib.Core.Path.{_≡_, refl, sym, subst}
+use mathlib.Core.Path.{_≡_, refl, subst}
 use mathlib.Core.Bool.{Bool, true, false, not, _&&_}
 use mathlib.Core.List.{List, [], _∷_}
 use mathlib.Core.Logic.{inl, inr}
@@ -10,15 +10,6 @@ use Rattle.theory.specs.Chains.{Onward, Chain, On, Heard}
 use Rattle.theory.proofs.Tests.{and-fst, and-snd, and-both}
 use Rattle.theory.proofs.Maps.{same-map, hidden-sound}
 use Rattle.theory.proofs.Chains.{goes, heard, heard-last, heard-part}
-
-onward-last : (m : Map) (s t : ℕ) (c : List ℕ) → Onward m s c t → On t (s ∷ c)
-onward-last m s t [] e = inl (sym e)
-onward-last m s t (x ∷ c) h = inr (onward-last m x t c (h .1))
-
--- the last unit of a chain stands on it
-pub last-on : (m : Map) (s t : ℕ) (c : List ℕ) → Chain m s t c → On t c
-last-on m s t [] h = absurd h
-last-on m s t (x ∷ c) h = subst (λ z. On t (z ∷ c)) (sym (h .0)) (onward-last m s t c (h .2))
 
 module _ (f : ℕ → Bool) (m : Map) where
   pub shown-unit : (x : ℕ) → T (hidden f m .unit x) → T (m .unit x)

@@ -1,13 +1,12 @@
 -- The labels of a map are those of its hearing: the core at Heard m.
-use mathlib.Core.Path.{_≡_}
 use mathlib.Core.List.{List}
-use mathlib.Core.Logic.{_↔_, _⊎_, inl, inr, ⊎-elim, Iff·symm, _≢_, ⊎-map}
+use mathlib.Core.Logic.{_↔_, _⊎_, inl, inr, Iff·symm, ⊎-map}
 use Prim.Native.Nat.{ℕ, _≤_, _<_}
 use native.Mathlib.Omega.{arith}
 use native.Mathlib.Decide.{map-dec}
 use Rattle.std.proofs.shelf.Tests.{cases-lt}
 use Rattle.theory.specs.Maps.{Map, Sound, turned}
-use Rattle.theory.specs.Chains.{Chain, On, Heard}
+use Rattle.theory.specs.Chains.{Heard}
 use Rattle.theory.specs.Hearing.{isHeard}
 use Rattle.theory.specs.Ranks.{rankIn, Orders}
 use Rattle.theory.specs.Labels.{InLabel, OutLabel, InList, OutList, Highest}

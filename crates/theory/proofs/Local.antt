@@ -2,15 +2,15 @@
 use mathlib.Core.Path.{_≡_, refl, sym, subst, ap, _∙_, fun-ext}
 use mathlib.Core.Bool.{Bool, true, false, cond}
 use mathlib.Core.List.{List, [], _∷_}
-use mathlib.Core.Logic.{_↔_, _⊎_, inl, inr, Iff·symm, Iff·trans}
+use mathlib.Core.Logic.{_⊎_, inl, inr, Iff·trans}
 use Prim.Native.Nat.{ℕ, zero, suc}
 use native.Mathlib.Omega.{arith}
 use lib.Dec.{T, eqb, eqb-refl}
 use Rattle.std.proofs.shelf.Tests.{cases-eq}
 use Rattle.theory.specs.Maps.{Map, Sound, turned, with-pair, without-pair, without-unit, enrolled}
 use Rattle.theory.specs.Chains.{Heard}
-use Rattle.theory.specs.Ranks.{rankIn, inserted, removed, moved, Orders}
-use Rattle.theory.specs.Labels.{InLabel, isInLabel}
+use Rattle.theory.specs.Ranks.{rankIn, inserted, removed, moved}
+use Rattle.theory.specs.Labels.{isInLabel}
 use Rattle.theory.specs.Lists.{picked}
 use Rattle.theory.specs.Changes.{Frame, Local, Pair-local, Unpair-local, Drop-local, Rank-local, Enrol-local}
 use Rattle.theory.proofs.Maps.{turned-sound, hidden-sound}

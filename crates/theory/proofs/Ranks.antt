@@ -1,6 +1,5 @@
 -- Ranks tell the units of an order apart, and a number put into an order or taken out leaves the others in theirs.
 use mathlib.Core.Path.{_≡_, refl, sym, subst, _∙_, ap}
-use mathlib.Core.Bool.{cond}
 use mathlib.Core.List.{List, [], _∷_}
 use mathlib.Core.Logic.{_↔_, _≢_, _⊎_, inl, inr, ⊎-elim, Iff·rfl, Iff·symm, Iff·trans}
 use Prim.Native.Nat.{ℕ, zero, suc, _≤_, _<_}

@@ -1,21 +1,17 @@
 -- A ring is a pairing and a chain back, so a change is judged by the hearing between the ends of each pairing.
-use mathlib.Core.Path.{_≡_, refl, sym, subst}
+use mathlib.Core.Path.{_≡_, refl, subst}
 use mathlib.Core.Bool.{Bool}
 use mathlib.Core.List.{List, [], _∷_}
 use mathlib.Core.Logic.{_↔_, _≢_, _⊎_, inl, inr, ⊎-elim}
-use Prim.Native.Nat.{ℕ, _≤_}
+use Prim.Native.Nat.{ℕ}
 use native.Mathlib.Omega.{arith}
 use lib.Dec.{T, eqb, eqb→eq}
-use lib.ListN.{length}
-use Rattle.theory.specs.Maps.{Map, Sound, nothing, with-pair, without-pair, without-unit, hidden, enrolled}
-use Rattle.theory.specs.Chains.{Chain, On, Heard, NoRing}
-use Rattle.theory.specs.Hearing.{isHeard}
+use Rattle.theory.specs.Maps.{Map, Sound, nothing, with-pair, without-pair, hidden, enrolled}
+use Rattle.theory.specs.Chains.{On, Heard, NoRing}
 use Rattle.theory.specs.Changes.{New}
 use Rattle.theory.specs.Rings.{Rings-kept-out}
-use Rattle.theory.proofs.Tests.{decided}
 use Rattle.theory.proofs.Maps.{hidden-sound}
-use Rattle.theory.proofs.Chains.{heard, heard-self, heard-trans, heard-pair, heard-first, heard-last, goes}
-use Rattle.theory.proofs.Warshall.{heard-sound, heard-complete}
+use Rattle.theory.proofs.Chains.{heard, heard-trans, heard-pair, goes}
 use Rattle.theory.proofs.Hidden.{shown-pair, show, hide-between}
 use Rattle.theory.proofs.Frames.{Extra, detour, heard-up, with-pair-sound, with-pair-extra, with-pair-here, without-pair-sound, without-pair-extra}
 use Rattle.theory.proofs.Enrols.{enrolled-sound, enrolled-cases, enrolled-dropped, source-pair, listener-pair, old-heard, heard-new, new-heard}

@@ -1,18 +1,17 @@
 -- Two lists of labels tell who hears whom and through which highest unit, and no label can be spared.
 use mathlib.Core.Path.{_≡_, refl, sym, subst, ap}
-use mathlib.Core.Bool.{Bool, _&&_}
+use mathlib.Core.Bool.{_&&_}
 use mathlib.Core.List.{List, [], _∷_}
 use mathlib.Core.Logic.{_↔_, _≢_, _⊎_, inl, inr, ⊎-elim, ⊎-map}
-use Prim.Native.Nat.{ℕ, _≤_, _<_}
+use Prim.Native.Nat.{ℕ, _≤_}
 use native.Mathlib.Omega.{arith}
 use lib.Dec.{T}
-use Rattle.std.specs.declared.option.Option.{Option}
 use Rattle.std.specs.declared.option.Option.the-variants.{Some, None}
 use Rattle.theory.specs.Maps.{Map, Sound, turned, listed}
 use Rattle.theory.specs.Chains.{On, Heard}
 use Rattle.theory.specs.Ranks.{rankIn, removed, Orders}
-use Rattle.theory.specs.Labels.{InLabel, OutLabel, InList, OutList, InListBut, OutListBut, Highest}
-use Rattle.theory.specs.Lists.{picked, Ascending, inLabels, outLabels, shares, first, highestShared}
+use Rattle.theory.specs.Labels.{InList, OutList, InListBut, OutListBut, Highest}
+use Rattle.theory.specs.Lists.{picked, Ascending, inLabels, outLabels, shares, first}
 use Rattle.theory.specs.Theorems.{Cover, Highest-shared, Minimal-in, Minimal-out}
 use Rattle.theory.proofs.Tests.{and-fst, and-snd, and-both}
 use Rattle.theory.proofs.Maps.{turned-sound, turned-orders}
@@ -68,8 +67,11 @@ module _ (m : Map) (sound : Sound m) (order : List ℕ) (orders : Orders m order
       out-list-on m sound order orders x s .0 (outs .0 (and-fst (listed x (s ∷ outLabels m order s)) (listed x (t ∷ inLabels m order t)) k)),
       in-list-on m sound order orders x t .0 (ins .0 (and-snd (listed x (s ∷ outLabels m order s)) (listed x (t ∷ inLabels m order t)) k)),
     ),
-    λ (o, i). on .1 (orders .every x (unit o), and-both (listed x (s ∷ outLabels m order s)) (listed x (t ∷ inLabels m order t))
-        (outs .1 (out-list-on m sound order orders x s .1 o)) (ins .1 (in-list-on m sound order orders x t .1 i))),
+    λ (o, i). on .1 (
+      orders .every x (unit o),
+      and-both (listed x (s ∷ outLabels m order s)) (listed x (t ∷ inLabels m order t))
+          (outs .1 (out-list-on m sound order orders x s .1 o)) (ins .1 (in-list-on m sound order orders x t .1 i)),
+    ),
   )
     where
       on : On x (picked (λ w. listed w (s ∷ outLabels m order s) && listed w (t ∷ inLabels m order t)) order) ↔ (On x order × T (listed x (s ∷ outLabels m order s) && listed x (t ∷ inLabels m order t)))

@@ -1,15 +1,15 @@
 -- Right tables say the labels, and a walk past what they mark gives the next row.
-use mathlib.Core.Path.{_≡_, refl, sym, subst, _∙_}
+use mathlib.Core.Path.{_≡_, sym, subst}
 use mathlib.Core.Bool.{Bool}
 use mathlib.Core.List.{List}
 use mathlib.Core.Logic.{_↔_, _≢_, _⊎_, ⊎-map, Iff·symm, Iff·trans}
 use Prim.Native.Nat.{ℕ}
 use lib.Dec.{T}
 use Rattle.theory.specs.Maps.{Map, Sound, turned, hidden}
-use Rattle.theory.specs.Chains.{On, Heard}
+use Rattle.theory.specs.Chains.{Heard}
 use Rattle.theory.specs.Ranks.{rankIn, Orders}
 use Rattle.theory.specs.Labels.{InLabel, OutLabel, isInLabel}
-use Rattle.theory.specs.Rows.{Covered, Rows, Right, RightBefore, Through, MarksBy, turnedRows}
+use Rattle.theory.specs.Rows.{Covered, Rows, Right, RightBefore, Through, turnedRows}
 use Rattle.theory.specs.Walks.{Next-row, Reached-by-tables}
 use Rattle.theory.proofs.Tests.{same-tests}
 use Rattle.theory.proofs.Maps.{turned-sound}

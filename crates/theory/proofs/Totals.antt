@@ -1,5 +1,5 @@
 -- Labels are counted by lists and by rows: the counts are of the same labels, and so equal.
-use mathlib.Core.Path.{_≡_, refl, sym, subst}
+use mathlib.Core.Path.{refl}
 use mathlib.Core.Bool.{Bool, true, false, not}
 use mathlib.Core.List.{List, [], _∷_, _++_}
 use mathlib.Core.Logic.{_↔_, _⊎_, inl, inr, ⊎-elim, ⊎-map}
@@ -12,9 +12,8 @@ use Rattle.theory.specs.Chains.{On}
 use Rattle.theory.specs.Counts.{count}
 use Rattle.theory.specs.Ranks.{rankIn, Once, Orders}
 use Rattle.theory.specs.Labels.{InLabel, OutLabel}
-use Rattle.theory.specs.Lists.{picked, ListOf, inLabels, outLabels, sum, total, differing, either, labels-changed}
-use Rattle.theory.specs.Rows.{Rows, Right, AllRight}
-use Rattle.theory.specs.Sizes.{Stands, Changed, Number, rows-total, oneOf, rows-changed, Total-counted, Changed-counted, Total-by-rows, Changed-by-rows}
+use Rattle.theory.specs.Lists.{picked, inLabels, outLabels, total, differing, either, labels-changed}
+use Rattle.theory.specs.Sizes.{Stands, Changed, rows-total, oneOf, rows-changed, Total-counted, Changed-counted, Total-by-rows, Changed-by-rows}
 use Rattle.theory.proofs.Tests.{decided}
 use Rattle.theory.proofs.Maps.{turned-sound, turned-orders}
 use Rattle.theory.proofs.Chains.{heard-first, heard-last}

@@ -73,7 +73,7 @@ Drop-kept =
     (a d : ℕ → Bool) → ((u : ℕ) → T (a u) ↔ Heard m u x) → ((v : ℕ) → T (d v) ↔ Heard m x v) →
     AllRight (without-unit x m) (removed x order) (relabel (without-unit x m) (removed x order) a d (removed x order) (emptied x rows)) ×
     (count (rows .ins x) + count (rows .outs x) + tally (without-unit x m) (removed x order) a d (removed x order) (emptied x rows)
-      ≡ labels-changed m order (without-unit x m) (removed x order))
+    ≡ labels-changed m order (without-unit x m) (removed x order))
 
 -- From nothing: over all units, whatever the tables held.
 abbrev pub Made-new : Type 0
