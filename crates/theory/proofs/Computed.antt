@@ -57,6 +57,8 @@ examples = record {
   before-enrol = refl;
   after-enrol = refl;
   enrol-changes = refl;
+  ring-4 = refl;
+  ring-all = refl;
   past-2 = past-2;
   past-both = past-both;
 }

@@ -81,22 +81,22 @@ local-paired m n sm sn order A D frame =
     local m n sm sn order order A D frame 0 (λ f far. refl) (λ v h. zero-alone n sn (D v) (heard-first n sn 0 v h)) (λ u h. zero-alone n sn (A u) (heard-last n sn u 0 h))
 
 pub pair-local : Pair-local
-pair-local m sound order orders a b ua ub ne =
+pair-local m sound order a b ua ub ne =
     local-paired m (with-pair a b m) sound (with-pair-sound m sound a b ua ub ne) order (λ u. Heard m u a) (λ v. Heard m b v) (pair-frame m sound a b ua ub ne (rankIn order))
 
 pub unpair-local : Unpair-local
-unpair-local m sound order orders a b =
+unpair-local m sound order a b =
     local-paired m (without-pair a b m) sound (without-pair-sound m sound a b) order (λ u. Heard m u a) (λ v. Heard m b v) (unpair-frame m sound a b (rankIn order))
 
 pub drop-local : Drop-local
-drop-local m sound order orders x =
+drop-local m sound order x =
     let n = without-unit x m in
     let sn = hidden-sound (λ y. eqb y x) m sound in
     local m n sound sn order (removed x order) (λ u. Heard m u x) (λ v. Heard m x v) (drop-frame m sound order x) x (λ f far. sym (picked-removed f x order far))
     (λ v h. absurd (clear-unit (λ y. eqb y x) m x (heard-first n sn x v h) (eqb-refl x))) (λ u h. absurd (clear-unit (λ y. eqb y x) m x (heard-last n sn u x h) (eqb-refl x)))
 
 pub rank-local : Rank-local
-rank-local m sound order orders x ux k =
+rank-local m sound order x k =
     local m m sound sound order (moved k x order) (λ u. Heard m u x) (λ v. Heard m x v) (rank-frame m sound order x k) x
     (λ f far. sym (picked-inserted f k x (removed x order) far ∙ picked-removed f x order far)) (λ v h. h) (λ u h. h)
 

@@ -94,23 +94,23 @@ pub record Local (m : Map) (order : List ℕ) (n : Map) (after : List ℕ) (A D 
 -- A pairing of a to b, added or taken away, alters in-labels only of units that hear b, and out-labels only of units that a hears.
 abbrev pub Pair-local : Type 0
 Pair-local =
-    (m : Map) → Sound m → (order : List ℕ) → Orders m order → (a b : ℕ) → T (m .unit a) → T (m .unit b) → a ≢ b →
+    (m : Map) → Sound m → (order : List ℕ) (a b : ℕ) → T (m .unit a) → T (m .unit b) → a ≢ b →
     Local m order (with-pair a b m) order (λ u. Heard m u a) (λ v. Heard m b v)
 
 abbrev pub Unpair-local : Type 0
 Unpair-local =
-    (m : Map) → Sound m → (order : List ℕ) → Orders m order → (a b : ℕ) →
+    (m : Map) → Sound m → (order : List ℕ) (a b : ℕ) →
     Local m order (without-pair a b m) order (λ u. Heard m u a) (λ v. Heard m b v)
 
 -- A unit x that is dropped or moved alters in-labels only of units that hear it, and out-labels only of units that it hears.
 abbrev pub Drop-local : Type 0
 Drop-local =
-    (m : Map) → Sound m → (order : List ℕ) → Orders m order → (x : ℕ) →
+    (m : Map) → Sound m → (order : List ℕ) (x : ℕ) →
     Local m order (without-unit x m) (removed x order) (λ u. Heard m u x) (λ v. Heard m x v)
 
 abbrev pub Rank-local : Type 0
 Rank-local =
-    (m : Map) → Sound m → (order : List ℕ) → Orders m order → (x : ℕ) → T (m .unit x) → (k : ℕ) →
+    (m : Map) → Sound m → (order : List ℕ) (x k : ℕ) →
     Local m order m (moved k x order) (λ u. Heard m u x) (λ v. Heard m x v)
 
 -- A unit x that is enrolled, only of units that then hear it, and of units that it then hears.

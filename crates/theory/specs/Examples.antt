@@ -40,6 +40,10 @@ direct = with-pair 1 3 (units (1 ∷ 3 ∷ []))
 abbrev pub between : Map
 between = enrolled 2 (1 ∷ []) (3 ∷ []) direct
 
+-- 1 is paired to 2, 2 to 3 and 3 to 1, a ring; and 3 to 4.
+abbrev pub ring : Map
+ring = with-pair 1 2 (with-pair 2 3 (with-pair 3 1 (with-pair 3 4 (units (1 ∷ 2 ∷ 3 ∷ 4 ∷ [])))))
+
 pub record Examples : Type 0 where
   -- nothing has no labels
   pub empty : total nothing [] ≡ 0
@@ -69,6 +73,9 @@ pub record Examples : Type 0 where
   pub before-enrol : inLabels direct (1 ∷ 3 ∷ []) 3 ≡ 1 ∷ []
   pub after-enrol : inLabels between (inserted 0 2 (1 ∷ 3 ∷ [])) 3 ≡ 2 ∷ []
   pub enrol-changes : labels-changed direct (1 ∷ 3 ∷ []) between (inserted 0 2 (1 ∷ 3 ∷ [])) ≡ 3
+  -- round the ring all hear each other, and 4 hears all: 2, the highest, is its only in-label
+  pub ring-4 : inLabels ring (2 ∷ 4 ∷ 1 ∷ 3 ∷ []) 4 ≡ 2 ∷ []
+  pub ring-all : total ring (2 ∷ 4 ∷ 1 ∷ 3 ∷ []) ≡ 5
   -- past a hidden unit of the diamond the other way has two pairings; past both there is none
   pub past-2 : Fewest (hidden (λ k. listed k (2 ∷ [])) diamond) 1 4 2
   pub past-both : Heard (hidden (λ k. listed k (2 ∷ 3 ∷ [])) diamond) 1 4 → ⊥
