@@ -165,6 +165,8 @@ rank-orders m order orders x ux k = record {
 
 pub changes-sound : Changes-sound
 changes-sound = record {
+  none = record { low = λ u t. absurd t; high = λ u t. absurd t; from = λ a b t. absurd t; to = λ a b t. absurd t; apart = λ a b t. absurd t };
+  none-orders = record { every = λ u t. t; only = λ u o. o; once = tt };
   pair = with-pair-sound;
   unpair = without-pair-sound;
   drop = λ m sound v. hidden-sound (λ y. eqb y v) m sound;

@@ -1,11 +1,11 @@
 -- What a change of a map or of its order leaves of the labels: what is proved.
 use mathlib.Core.Path.{_≡_}
-use mathlib.Core.List.{List}
+use mathlib.Core.List.{List, []}
 use mathlib.Core.Logic.{_↔_, _≢_, _⊎_}
 use Prim.Native.Nat.{ℕ, suc, _≤_}
 use lib.Dec.{T}
 use lib.ListN.{length}
-use Rattle.theory.specs.Maps.{Map, Sound, with-pair, without-pair, without-unit, enrolled}
+use Rattle.theory.specs.Maps.{Map, Sound, nothing, with-pair, without-pair, without-unit, enrolled}
 use Rattle.theory.specs.Chains.{On, Heard}
 use Rattle.theory.specs.Ranks.{rankIn, inserted, removed, moved, Orders}
 use Rattle.theory.specs.Labels.{InLabel, OutLabel}
@@ -27,8 +27,10 @@ pub record New (m : Map) (v : ℕ) (sources listeners : List ℕ) : Type 0 where
   pub from : (s : ℕ) → On s sources → T (m .unit s)
   pub to : (t : ℕ) → On t listeners → T (m .unit t)
 
--- A change leaves a sound map and an order of it.
+-- The map of nothing is sound, and a change leaves a sound map and an order of it.
 pub record Changes-sound : Type 0 where
+  pub none : Sound nothing
+  pub none-orders : Orders nothing []
   pub pair : (m : Map) → Sound m → (a b : ℕ) → T (m .unit a) → T (m .unit b) → a ≢ b → Sound (with-pair a b m)
   pub unpair : (m : Map) → Sound m → (a b : ℕ) → Sound (without-pair a b m)
   pub drop : (m : Map) → Sound m → (v : ℕ) → Sound (without-unit v m)
