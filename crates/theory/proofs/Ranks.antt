@@ -36,14 +36,14 @@ rank-apart (x ∷ xs) u w o e = go (cases-eq u x) (cases-eq w x) o (rank-apart x
     go (inr a) (inr b) (inl k) ih = absurd (a k)
     go (inr a) (inr b) (inr k) ih = ih k (omega (arith, e, rank-next x xs u a, rank-next x xs w b))
 
--- a number struck from the list leaves the others in their order
+-- a number taken out of the list leaves the others in their order
 pub removed-here : (y : ℕ) (ys : List ℕ) (x : ℕ) → y ≡ x → removed x (y ∷ ys) ≡ removed x ys
 removed-here y ys x e = cond-true (eqb y x) (removed x ys) (y ∷ removed x ys) (eq-eqb y x e)
 
 pub removed-next : (y : ℕ) (ys : List ℕ) (x : ℕ) → (y ≡ x → ⊥) → removed x (y ∷ ys) ≡ y ∷ removed x ys
 removed-next y ys x ne = cond-false (eqb y x) (removed x ys) (y ∷ removed x ys) (ne-eqb y x ne)
 
--- two lists that inserted u and w in the same order
+-- two lists that put u and w in the same order
 abbrev pub SameOrder : List ℕ → List ℕ → ℕ → ℕ → Type 0
 SameOrder a b u w = (rankIn a u < rankIn a w) ↔ (rankIn b u < rankIn b w)
 
@@ -96,7 +96,7 @@ removed-none : (x : ℕ) (xs : List ℕ) → (On x xs → ⊥) → removed x xs 
 removed-none x [] far = refl
 removed-none x (y ∷ ys) far = removed-next y ys x (λ e. far (inl (sym e))) ∙ ap (λ l. y ∷ l) (removed-none x ys (λ o. far (inr o)))
 
--- what is inserted in and struck again leaves the list
+-- what is put in and taken out again leaves the list
 pub removed-inserted : (k x : ℕ) (xs : List ℕ) → (On x xs → ⊥) → removed x (inserted k x xs) ≡ xs
 removed-inserted zero x xs far = removed-here x xs x refl ∙ removed-none x xs far
 removed-inserted (suc k) x [] far = removed-here x [] x refl

@@ -49,7 +49,7 @@ no-longer (x ∷ xs) ys a f =
 pub number-told : Number-told
 number-told xs ys a b same = omega (arith, no-longer xs ys a (λ l. same l .0), no-longer ys xs b (λ l. same l .1))
 
--- numbers of labels, inserted together
+-- numbers of labels, put together
 number-none : (P : Label → Type 0) → ((l : Label) → P l → ⊥) → Number P 0
 number-none P far = record { list = []; every = far; only = λ l k. absurd k; apart = tt; size = refl }
 
