@@ -1,9 +1,11 @@
 -- Maps that answer alike are one map, and what the layers keep.
 use mathlib.Core.Path.{_≡_, sym}
 use mathlib.Core.Bool.{Bool, not, _&&_}
+use mathlib.Core.List.{List}
 use Prim.Native.Nat.{ℕ}
 use lib.Dec.{T}
 use Rattle.theory.specs.Maps.{Map, Sound, turned, hidden}
+use Rattle.theory.specs.Ranks.{Orders}
 use Rattle.theory.proofs.Tests.{and-fst, and-snd, and-both}
 
 pub same-map : (m n : Map) → ((k : ℕ) → m .unit k ≡ n .unit k) → ((x y : ℕ) → m .pair x y ≡ n .pair x y) → m ≡ n
@@ -17,6 +19,9 @@ turned-sound m s = record {
   to = λ a b. s .from b a;
   apart = λ a b p e. s .apart b a p (sym e);
 }
+
+pub turned-orders : (m : Map) (order : List ℕ) → Orders m order → Orders (turned m) order
+turned-orders m order o = record { every = o .every; only = o .only; once = o .once }
 
 pub hidden-sound : (marked : ℕ → Bool) (m : Map) → Sound m → Sound (hidden marked m)
 hidden-sound marked m s = record {

@@ -1,14 +1,14 @@
 -- Hearing is decided by Warshall's recursion.
-use mathlib.Core.Path.{_≡_, refl, sym, subst}
-use mathlib.Core.Bool.{Bool, true, false, _&&_, _||_}
-use mathlib.Core.List.{List, [], _∷_, _++_}
-use mathlib.Core.Logic.{_↔_, _⊎_, inl, inr, ⊎-elim}
-use Prim.Native.Nat.{ℕ, zero, suc, _≤_, _<_}
+use mathlib.Core.Path.{_≡_, subst}
+use mathlib.Core.Bool.{Bool, true, false, _&&_}
+use mathlib.Core.List.{List, [], _∷_}
+use mathlib.Core.Logic.{_⊎_, inl, inr, ⊎-elim}
+use Prim.Native.Nat.{ℕ, zero, suc, _≤_}
 use native.Mathlib.Omega.{arith}
 use lib.Dec.{T, eqb, eqb→eq, eqb-refl}
 use Rattle.std.proofs.shelf.Tests.{cases-eq}
 use Rattle.theory.specs.Maps.{Map, Sound}
-use Rattle.theory.specs.Chains.{Onward, Chain, Heard}
+use Rattle.theory.specs.Chains.{Onward, Heard}
 use Rattle.theory.specs.Hearing.{reach, isHeard}
 use Rattle.theory.specs.Theorems.{Hearing-decided}
 use Rattle.theory.proofs.Chains.{goes, heard-self, heard-pair, heard-trans, heard-last}

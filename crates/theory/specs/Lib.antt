@@ -3,4 +3,14 @@ pub mod Chains
 pub mod Hearing
 pub mod Counts
 pub mod Ranks
+pub mod Labels
+pub mod Lists
 pub mod Theorems
+pub mod Rows
+pub mod Walks
+pub mod Changes
+pub mod Rings
+pub mod Turns
+pub mod Sizes
+pub mod Whole
+pub mod Examples

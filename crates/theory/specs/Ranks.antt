@@ -1,5 +1,5 @@
 -- Ranks: a list of the units, each once. The first has rank 1, and a smaller rank is higher.
-use mathlib.Core.Bool.{Bool, cond}
+use mathlib.Core.Bool.{cond}
 use mathlib.Core.List.{List, [], _∷_}
 use Prim.Native.Nat.{ℕ, zero, suc}
 use lib.Dec.{T, eqb}
