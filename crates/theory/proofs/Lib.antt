@@ -3,3 +3,4 @@ pub mod Maps
 pub mod Counting
 pub mod Chains
 pub mod Warshall
+pub mod Distinct
