@@ -1,0 +1,110 @@
+-- What every rank table keeps, said of its order.
+use mathlib.Core.Bool.{Bool, true, false, not, cond, _&&_}
+use mathlib.Core.List.{List, [], _∷_}
+use mathlib.Core.Logic.{_⊎_, inl, inr, ⊎-elim}
+use mathlib.Core.Path.{_≡_, refl, sym, ap, subst, _∙_}
+use Prim.Native.Nat.{ℕ, zero, suc, _+_, _-_, _≤_, _<_}
+use native.Mathlib.Omega.{arith}
+use lib.Dec.{T, eqb, leb}
+use lib.ListN.{length, getD}
+use Rattle.std.proofs.shelf.Lists.{getD-take, getD-past}
+use Rattle.std.proofs.shelf.Tests.{true≢false, cases-bool, cases-eq, cases-lt, cond-true, cond-false, eq-eqb, ne-eqb, and-from, le-leb}
+use Rattle.std.specs.declared.option.Option.{Option}
+use Rattle.std.specs.declared.option.Option.the-variants.{Some, None}
+use Rattle.theory.specs.Maps.{listed}
+use Rattle.theory.specs.Chains.{On}
+use Rattle.theory.specs.Ranks.{rankIn, Once}
+use Rattle.theory.proofs.Tests.{passes}
+use Rattle.theory.proofs.Distinct.{on-listed, at-on, on-at, rank-at, fewer}
+use Rattle.ranks.specs.declared.table.Ranks.{Ranks}
+use Rattle.ranks.specs.Orders.{order-of, Lawful, rank-found, unit-found}
+
+-- what an inverse tells apart is different
+once-from : (f : ℕ → ℕ) (c : ℕ) (xs : List ℕ) → ((i : ℕ) → i < length xs → f (getD xs i 0) ≡ i + c) → Once xs
+once-from f c [] h = tt
+once-from f c (x ∷ xs) h =
+    (λ o. let p = at-on xs x o in let l = p .1 in omega (arith, h zero (omega arith), h (suc (p .0)) (omega arith), ap f (p .2)),
+     once-from f (suc c) xs (λ i l. omega (arith, h (suc i) (omega arith))))
+
+failed : (b : Bool) → b ≡ false → T b → ⊥
+failed true e t = true≢false e
+failed false e t = t
+
+fails : (b : Bool) → (T b → ⊥) → b ≡ false
+fails true h = absurd (h tt)
+fails false h = refl
+
+module _ (r : Ranks) where
+  -- a place of the order, read from the array
+  pub order-read : (i : ℕ) → i < length (order-of r) → getD (order-of r) i 0 ≡ getD (r .order) i 0
+  order-read i h = getD-take (r .n) (r .order) i 0 (omega (arith, r .filled))
+
+  rank-read : (i : ℕ) → i < length (order-of r) → getD (r .place) (getD (order-of r) i 0) 0 ≡ i + 1
+  rank-read i h = ap (λ u. getD (r .place) u 0) (order-read i h) ∙ r .numbered i (omega (arith, r .filled))
+
+  pub order-once : Once (order-of r)
+  order-once = once-from (λ u. getD (r .place) u 0) 1 (order-of r) rank-read
+
+  -- the rank that the table has of a unit
+  pub rank-is : (u : ℕ) → On u (order-of r) → getD (r .place) u 0 ≡ rankIn (order-of r) u
+  rank-is u o =
+      let p = at-on (order-of r) u o in
+      let here = rank-read (p .0) (p .1) in
+      let there = rank-at (order-of r) order-once (p .0) (p .1) in
+      let e : getD (r .place) (getD (order-of r) (p .0) 0) 0 ≡ rankIn (order-of r) (getD (order-of r) (p .0) 0) = omega arith in
+      subst (λ z. getD (r .place) z 0 ≡ rankIn (order-of r) z) (p .2) e
+
+  -- and it is not 0
+  pub ranked : (u : ℕ) → On u (order-of r) → 1 ≤ getD (r .place) u 0
+  ranked u o =
+      let p = at-on (order-of r) u o in
+      omega (arith, rank-read (p .0) (p .1), ap (λ z. getD (r .place) z 0) (p .2))
+
+  order-high : (u : ℕ) → On u (order-of r) → (u < 256) ⊎ (256 ≤ u) → u ≤ 255
+  order-high u o (inl b) = omega arith
+  order-high u o (inr b) = absurd (omega (arith, ranked u o, getD-past (r .place) u 0 (omega (arith, r .wide))))
+
+  order-low : (u : ℕ) → On u (order-of r) → (1 ≤ u)
+  order-low zero o = absurd (omega (arith, ranked 0 o, r .zero))
+  order-low (suc u) o = omega arith
+
+  pub order-lawful : Lawful (order-of r)
+  order-lawful = record {
+    low = order-low;
+    high = λ u o. order-high u o (cases-lt u 256);
+    once = order-once;
+  }
+
+  -- a unit is in the order exactly where its rank is not 0
+  pub off-order : (u : ℕ) → getD (r .place) u 0 ≡ 0 → listed u (order-of r) ≡ false
+  off-order u e = fails (listed u (order-of r)) (λ t. omega (arith, ranked u (on-listed u (order-of r) .1 t)))
+
+  pub on-order : (u : ℕ) → (getD (r .place) u 0 ≡ 0 → ⊥) → listed u (order-of r) ≡ true
+  on-order u ne = ⊎-elim (λ e. e) (λ e. absurd (ne (r .absent u (λ o. failed (listed u (order-of r)) e (on-listed u (order-of r) .0 o))))) (cases-bool (listed u (order-of r)))
+
+  pub holds-is : (u : ℕ) → not (eqb (getD (r .place) u 0) 0) ≡ listed u (order-of r)
+  holds-is u =
+      ⊎-elim (λ e. ap not (eq-eqb (getD (r .place) u 0) 0 e) ∙ sym (off-order u e)) (λ ne. ap not (ne-eqb (getD (r .place) u 0) 0 ne) ∙ sym (on-order u ne))
+      (cases-eq (getD (r .place) u 0) 0)
+
+  pub rank-none : (u : ℕ) → getD (r .place) u 0 ≡ 0 → None ≡ rank-found (order-of r) u
+  rank-none u e = sym (cond-false (listed u (order-of r)) (Some (rankIn (order-of r) u)) None (off-order u e))
+
+  pub rank-some : (u : ℕ) → (getD (r .place) u 0 ≡ 0 → ⊥) → Some (getD (r .place) u 0) ≡ rank-found (order-of r) u
+  rank-some u ne =
+      let t = on-order u ne in
+      ap Some (rank-is u (on-listed u (order-of r) .1 (passes (listed u (order-of r)) t))) ∙ sym (cond-true (listed u (order-of r)) (Some (rankIn (order-of r) u)) None t)
+
+  pub unit-some : (rank : ℕ) → 1 ≤ rank → rank ≤ r .n → Some (getD (r .order) (rank - 1) 0) ≡ unit-found (order-of r) rank
+  unit-some rank one most =
+      let size = r .filled in
+      let low = le-leb 1 rank one in
+      let high = le-leb rank (length (order-of r)) (omega arith) in
+      ap Some (sym (order-read (rank - 1) (omega arith)))
+      ∙ sym (cond-true (leb 1 rank && leb rank (length (order-of r))) (Some (getD (order-of r) (rank - 1) 0)) None (and-from (leb 1 rank) (leb rank (length (order-of r))) low high))
+
+  -- a unit that is not in the order finds room
+  pub room : (u : ℕ) → 1 ≤ u → u ≤ 255 → listed u (order-of r) ≡ false → r .n < 255
+  room u one most far =
+      let l = order-lawful in
+      omega (arith, r .filled, fewer 255 (order-of r) (l .once) (l .low) (l .high) u one most (λ o. failed (listed u (order-of r)) far (on-listed u (order-of r) .0 o)))

@@ -1,0 +1,5 @@
+use Rattle.ranks.proofs.Tables.{holds-is}
+use Rattle.ranks.proofs.table.Ranks.holds.Needs as need
+
+pub returns : need.returns
+returns c = holds-is (c .args .self .now) (c .args .u)
