@@ -44,10 +44,10 @@ rank-at (x ∷ xs) once (suc i) h =
 
 -- ---- a number taken out
 
-removed-here : (y : ℕ) (ys : List ℕ) (x : ℕ) → y ≡ x → removed x (y ∷ ys) ≡ removed x ys
+pub removed-here : (y : ℕ) (ys : List ℕ) (x : ℕ) → y ≡ x → removed x (y ∷ ys) ≡ removed x ys
 removed-here y ys x e = cond-true (eqb y x) (removed x ys) (y ∷ removed x ys) (eq-eqb y x e)
 
-removed-next : (y : ℕ) (ys : List ℕ) (x : ℕ) → (y ≡ x → ⊥) → removed x (y ∷ ys) ≡ y ∷ removed x ys
+pub removed-next : (y : ℕ) (ys : List ℕ) (x : ℕ) → (y ≡ x → ⊥) → removed x (y ∷ ys) ≡ y ∷ removed x ys
 removed-next y ys x ne = cond-false (eqb y x) (removed x ys) (y ∷ removed x ys) (ne-eqb y x ne)
 
 pub on-removed : (xs : List ℕ) (x u : ℕ) → On u (removed x xs) ↔ (On u xs × (u ≢ x))
