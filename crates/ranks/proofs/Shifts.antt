@@ -87,3 +87,6 @@ apart order n i j h once hi hj e =
     let b = rank-at xs once j (omega arith) in
     let same : getD xs i 0 ≡ getD xs j 0 = getD-take n order i 0 hi ∙ e ∙ sym (getD-take n order j 0 hj) in
     omega (arith, ap (rankIn xs) same)
+
+pub on-order : (order : List ℕ) (n i : ℕ) → n ≤ length order → i < n → On (getD order i 0) (take n order)
+on-order order n i h l = let many = length-take-le n order h in subst (λ (u : ℕ). On u (take n order)) (getD-take n order i 0 l) (on-at (take n order) i (omega arith))

@@ -4,13 +4,54 @@ ghost use mathlib.Core.List.{[]};
 ghost use mathlib.Core.Path.{_≡_};
 ghost use Prim.Native.Nat.{ℕ, _+_, _<_, _≤_};
 ghost use lib.ListN.{length, getD, take};
+ghost use Rattle.theory.specs.Chains.{On};
 ghost use Rattle.theory.specs.Maps.{listed};
 ghost use Rattle.theory.specs.Ranks.{Once, inserted, removed, moved};
+ghost use Rattle.ranks.specs.Places.{Numbered};
 ghost use Rattle.ranks.specs.Orders.{order-of, Lawful, rank-found, unit-found};
 
 mod table;
 
 pub use table::Ranks;
+
+// Puts `u` in after the first k of n units: those from k on move down.
+fn put_in(order: &mut [u8; 255], n: u8, k: u8, u: u8)
+    requires room { ⌜ n < 255 ⌝ }
+    requires within { ⌜ k ≤ n ⌝ }
+    ensures { λ _. ⌜ take (n + 1) (now (order .exit)) ≡ inserted k u (take n (now (order .entry))) ⌝ }
+{
+    let mut j = n;
+    while j > k {
+        order[j as usize] = order[j as usize - 1];
+        j -= 1;
+    }
+    order[k as usize] = u;
+}
+
+// Takes the unit after the first k out, so that n are left: those below it move up.
+fn take_out(order: &mut [u8; 255], n: u8, k: u8)
+    requires room { ⌜ n < 255 ⌝ }
+    requires within { ⌜ k ≤ n ⌝ }
+    requires once { ⌜ Once (take (n + 1) (now order)) ⌝ }
+    ensures { λ _. ⌜ take n (now (order .exit)) ≡ removed (getD (now (order .entry)) k 0) (take (n + 1) (now (order .entry))) ⌝ }
+{
+    for j in k..n {
+        order[j as usize] = order[j as usize + 1];
+    }
+}
+
+// Writes the rank of each of the n units after the first k.
+fn renumber(order: &[u8; 255], n: u8, k: u8, place: &mut [u8; 256])
+    requires within { ⌜ k ≤ n ⌝ }
+    requires once { ⌜ Once (take n (now order)) ⌝ }
+    requires before { ⌜ Numbered (now order) (now place) k ⌝ }
+    ensures numbered { λ _. ⌜ Numbered (now (order .entry)) (now (place .exit)) n ⌝ }
+    ensures kept { λ _. ⌜ ((u : ℕ) → (On u (take n (now (order .entry))) → ⊥) → getD (now (place .exit)) u 0 ≡ getD (now (place .entry)) u 0) ⌝ }
+{
+    for j in k..n {
+        place[order[j as usize] as usize] = j + 1;
+    }
+}
 
 impl Ranks {
     // The table of no unit.
