@@ -1,2 +1,3 @@
 pub mod Tables
 pub mod Shifts
+pub mod Changes

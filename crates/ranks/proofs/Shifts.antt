@@ -52,31 +52,30 @@ opened old new n k v ho hn hk above here below =
         below i b h ∙ sym (getD-take n old (i - 1) 0 (omega arith)) ∙ sym (getD-inserted-above xs k v 0 (i - 1) (omega arith) within) ∙ ap (λ j. getD ys j 0) next
 
 -- what stood at k is gone, and those below it have moved up by one
-pub closed : (old new : List ℕ) (n k : ℕ) → n + 1 ≤ length old → n ≤ length new → k ≤ n → Once (take (n + 1) old) → ((i : ℕ) → i < k → getD new i 0 ≡ getD old i 0)
-    → ((i : ℕ) → k ≤ i → i < n → getD new i 0 ≡ getD old (i + 1) 0) → take n new ≡ removed (getD old k 0) (take (n + 1) old)
+pub closed : (old new : List ℕ) (n k : ℕ) → n ≤ length old → n ≤ length new → k < n → Once (take n old) → ((i : ℕ) → i < k → getD new i 0 ≡ getD old i 0)
+    → ((i : ℕ) → k ≤ i → i < n - 1 → getD new i 0 ≡ getD old (i + 1) 0) → take (n - 1) new ≡ removed (getD old k 0) (take n old)
 closed old new n k ho hn hk once above below =
-    let size = length-take-le n new hn in
+    let size = length-take-le (n - 1) new (omega arith) in
     let less = length-removed xs k within in
-    ext-getD 0 (take n new) ys (omega (arith, many))
-    (λ i h. getD-take n new i 0 (omega arith) ∙ at i (omega arith) (cases-lt i k))
+    ext-getD 0 (take (n - 1) new) ys (omega (arith, many)) (λ i h. getD-take (n - 1) new i 0 (omega arith) ∙ at i (omega arith) (cases-lt i k))
     ∙ sym (removed-is k xs once within)
-    ∙ ap (λ v. removed v xs) (getD-take (n + 1) old k 0 (omega arith))
+    ∙ ap (λ v. removed v xs) (getD-take n old k 0 hk)
   where
     xs : List ℕ
-    xs = take (n + 1) old
+    xs = take n old
 
     ys : List ℕ
     ys = take k xs ++ drop (suc k) xs
 
-    many : length xs ≡ n + 1
-    many = length-take-le (n + 1) old ho
+    many : length xs ≡ n
+    many = length-take-le n old ho
 
     within : k < length xs
     within = omega (arith, many)
 
-    at : (i : ℕ) → i < n → (i < k) ⊎ (k ≤ i) → getD new i 0 ≡ getD ys i 0
-    at i h (inl b) = above i b ∙ sym (getD-take (n + 1) old i 0 (omega arith)) ∙ sym (getD-removed-below xs k 0 i b within)
-    at i h (inr b) = below i b h ∙ sym (getD-take (n + 1) old (i + 1) 0 (omega arith)) ∙ sym (getD-removed-above xs k 0 i b within)
+    at : (i : ℕ) → i < n - 1 → (i < k) ⊎ (k ≤ i) → getD new i 0 ≡ getD ys i 0
+    at i h (inl b) = above i b ∙ sym (getD-take n old i 0 (omega arith)) ∙ sym (getD-removed-below xs k 0 i b within)
+    at i h (inr b) = below i b h ∙ sym (getD-take n old (i + 1) 0 (omega arith)) ∙ sym (getD-removed-above xs k 0 i b within)
 
 -- what stands at two places is different
 pub apart : (order : List ℕ) (n i j : ℕ) → n ≤ length order → Once (take n order) → i < n → j < n → getD order i 0 ≡ getD order j 0 → i ≡ j

@@ -34,6 +34,9 @@ fails : (b : Bool) → (T b → ⊥) → b ≡ false
 fails true h = absurd (h tt)
 fails false h = refl
 
+pub not-on : (u : ℕ) (xs : List ℕ) → listed u xs ≡ false → On u xs → ⊥
+not-on u xs e o = failed (listed u xs) e (on-listed u xs .0 o)
+
 module _ (r : Ranks) where
   -- a place of the order, read from the array
   pub order-read : (i : ℕ) → i < length (order-of r) → getD (order-of r) i 0 ≡ getD (r .order) i 0
@@ -80,7 +83,14 @@ module _ (r : Ranks) where
   off-order u e = fails (listed u (order-of r)) (λ t. omega (arith, ranked u (on-listed u (order-of r) .1 t)))
 
   pub on-order : (u : ℕ) → (getD (r .place) u 0 ≡ 0 → ⊥) → listed u (order-of r) ≡ true
-  on-order u ne = ⊎-elim (λ e. e) (λ e. absurd (ne (r .absent u (λ o. failed (listed u (order-of r)) e (on-listed u (order-of r) .0 o))))) (cases-bool (listed u (order-of r)))
+  on-order u ne = ⊎-elim (λ e. e) (λ e. absurd (ne (r .absent u (not-on u (order-of r) e)))) (cases-bool (listed u (order-of r)))
+
+  -- where a unit with a rank stands
+  place-of : (u : ℕ) → (getD (r .place) u 0 ≡ 0 → ⊥) → (i : ℕ) × (i < r .n) × (getD (r .order) i 0 ≡ u) × (getD (r .place) u 0 ≡ i + 1)
+  place-of u ne =
+      let p = at-on (order-of r) u (on-listed u (order-of r) .1 (passes (listed u (order-of r)) (on-order u ne))) in
+      let l = p .1 in
+      (p .0, omega (arith, r .filled), sym (order-read (p .0) l) ∙ p .2, sym (ap (λ z. getD (r .place) z 0) (p .2)) ∙ rank-read (p .0) l)
 
   pub holds-is : (u : ℕ) → not (eqb (getD (r .place) u 0) 0) ≡ listed u (order-of r)
   holds-is u =
@@ -103,8 +113,18 @@ module _ (r : Ranks) where
       ap Some (sym (order-read (rank - 1) (omega arith)))
       ∙ sym (cond-true (leb 1 rank && leb rank (length (order-of r))) (Some (getD (order-of r) (rank - 1) 0)) None (and-from (leb 1 rank) (leb rank (length (order-of r))) low high))
 
+  -- what a rank that is not 0 stands for
+  pub rank-within : (u : ℕ) → (getD (r .place) u 0 ≡ 0 → ⊥) → getD (r .place) u 0 ≤ r .n
+  rank-within u ne = let p = place-of u ne in let h = p .1 in omega (arith, p .3)
+
+  pub unit-there : (u : ℕ) → (getD (r .place) u 0 ≡ 0 → ⊥) → getD (r .order) (getD (r .place) u 0 - 1) 0 ≡ u
+  unit-there u ne =
+      let p = place-of u ne in
+      let e : getD (r .place) u 0 - 1 ≡ p .0 = omega (arith, p .3) in
+      ap (λ i. getD (r .order) i 0) e ∙ p .2
+
   -- a unit that is not in the order finds room
   pub room : (u : ℕ) → 1 ≤ u → u ≤ 255 → listed u (order-of r) ≡ false → r .n < 255
   room u one most far =
       let l = order-lawful in
-      omega (arith, r .filled, fewer 255 (order-of r) (l .once) (l .low) (l .high) u one most (λ o. failed (listed u (order-of r)) far (on-listed u (order-of r) .0 o)))
+      omega (arith, r .filled, fewer 255 (order-of r) (l .once) (l .low) (l .high) u one most (not-on u (order-of r) far))

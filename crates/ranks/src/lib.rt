@@ -2,7 +2,7 @@
 ghost use mathlib.Core.Bool.{true, false};
 ghost use mathlib.Core.List.{[]};
 ghost use mathlib.Core.Path.{_≡_};
-ghost use Prim.Native.Nat.{ℕ, _+_, _<_, _≤_};
+ghost use Prim.Native.Nat.{ℕ, _+_, _-_, _<_, _≤_};
 ghost use lib.ListN.{length, getD, take};
 ghost use Rattle.theory.specs.Chains.{On};
 ghost use Rattle.theory.specs.Maps.{listed};
@@ -18,7 +18,8 @@ pub use table::Ranks;
 fn put_in(order: &mut [u8; 255], n: u8, k: u8, u: u8)
     requires room { ⌜ n < 255 ⌝ }
     requires within { ⌜ k ≤ n ⌝ }
-    ensures { λ _. ⌜ take (n + 1) (now (order .exit)) ≡ inserted k u (take n (now (order .entry))) ⌝ }
+    ensures above { λ _. ⌜ ((i : ℕ) → i < k → getD (now (order .exit)) i 0 ≡ getD (now (order .entry)) i 0) ⌝ }
+    ensures all { λ _. ⌜ take (n + 1) (now (order .exit)) ≡ inserted k u (take n (now (order .entry))) ⌝ }
 {
     let mut j = n;
     while j > k {
@@ -28,14 +29,14 @@ fn put_in(order: &mut [u8; 255], n: u8, k: u8, u: u8)
     order[k as usize] = u;
 }
 
-// Takes the unit after the first k out, so that n are left: those below it move up.
+// Takes the unit after the first k of n out: those below it move up.
 fn take_out(order: &mut [u8; 255], n: u8, k: u8)
-    requires room { ⌜ n < 255 ⌝ }
-    requires within { ⌜ k ≤ n ⌝ }
-    requires once { ⌜ Once (take (n + 1) (now order)) ⌝ }
-    ensures { λ _. ⌜ take n (now (order .exit)) ≡ removed (getD (now (order .entry)) k 0) (take (n + 1) (now (order .entry))) ⌝ }
+    requires within { ⌜ k < n ⌝ }
+    requires once { ⌜ Once (take n (now order)) ⌝ }
+    ensures above { λ _. ⌜ ((i : ℕ) → i < k → getD (now (order .exit)) i 0 ≡ getD (now (order .entry)) i 0) ⌝ }
+    ensures all { λ _. ⌜ take (n - 1) (now (order .exit)) ≡ removed (getD (now (order .entry)) k 0) (take n (now (order .entry))) ⌝ }
 {
-    for j in k..n {
+    for j in k..n - 1 {
         order[j as usize] = order[j as usize + 1];
     }
 }
@@ -98,5 +99,37 @@ impl Ranks {
         ensures { λ r. ⌜ now r ≡ order-of (now (self .entry)) ⌝ }
     {
         &self.order[..self.n as usize]
+    }
+
+    // Puts `u` in below the first k units, so at rank k + 1. There is always room for a unit that is not in the order.
+    pub fn insert(&mut self, k: u8, u: u8)
+        requires unit { ⌜ 1 ≤ u ⌝ }
+        requires absent { ⌜ listed u (order-of (now self)) ≡ false ⌝ }
+        requires within { ⌜ k ≤ length (order-of (now self)) ⌝ }
+        ensures { λ _. ⌜ order-of (now (self .exit)) ≡ inserted k u (order-of (now (self .entry))) ⌝ }
+    {
+        let mut order = self.order;
+        let mut place = self.place;
+        put_in(&mut order, self.n, k, u);
+        let n = self.n + 1;
+        renumber(&order, n, k, &mut place);
+        *self = Ranks { order, place, n };
+    }
+
+    // Takes `u` out, where it is in the order.
+    pub fn remove(&mut self, u: u8)
+        ensures { λ _. ⌜ order-of (now (self .exit)) ≡ removed u (order-of (now (self .entry))) ⌝ }
+    {
+        let rank = self.place[u as usize];
+        if rank == 0 {
+            return;
+        }
+        let mut order = self.order;
+        let mut place = self.place;
+        take_out(&mut order, self.n, rank - 1);
+        place[u as usize] = 0;
+        let n = self.n - 1;
+        renumber(&order, n, rank - 1, &mut place);
+        *self = Ranks { order, place, n };
     }
 }

@@ -25,4 +25,7 @@ loop-j-again c =
 pub returns : need.returns
 returns c =
     let inv = c .loop-j .inv in
-    closed (c .args .order .now) (c .loop-j .order) (c .args .n) (c .args .k) (omega arith) (omega arith) (omega arith) (c .pre .once) (inv .1) (λ i h l. inv .2 i (omega arith) h)
+    record {
+      above = inv .1;
+      all = closed (c .args .order .now) (c .loop-j .order) (c .args .n) (c .args .k) (omega arith) (omega arith) (omega arith) (c .pre .once) (inv .1) (λ i h l. inv .2 i (omega arith) h);
+    }
