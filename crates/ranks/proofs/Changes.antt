@@ -1,5 +1,5 @@
 -- What a table's places are, once a unit is put into its order or taken out.
-use mathlib.Core.Bool.{Bool, true, false}
+use mathlib.Core.Bool.{true, false}
 use mathlib.Core.List.{List}
 use mathlib.Core.Logic.{_⊎_, inl, inr, ⊎-elim}
 use mathlib.Core.Path.{_≡_, refl, sym, ap, subst, _∙_}
@@ -11,15 +11,15 @@ use Rattle.std.proofs.shelf.Tests.{cases-eq}
 use Rattle.theory.specs.Maps.{listed}
 use Rattle.theory.specs.Chains.{On}
 use Rattle.theory.specs.Ranks.{Once, inserted, removed}
-use Rattle.theory.proofs.Distinct.{on-inserted, once-inserted, on-removed, once-removed}
+use Rattle.theory.proofs.Distinct.{off-from-listed, listed-from-off, on-inserted, once-inserted, on-removed, once-removed}
 use Rattle.ranks.specs.declared.table.Ranks.{Ranks}
 use Rattle.ranks.specs.Places.{Numbered, Absent}
 use Rattle.ranks.specs.Orders.{order-of}
-use Rattle.ranks.proofs.Tables.{order-lawful, order-once, not-on, rank-within, unit-there}
+use Rattle.ranks.proofs.Tables.{order-lawful, order-once, rank-within, unit-there}
 
 module _ (r : Ranks) (k u : ℕ) (units : List ℕ) (off : listed u (order-of r) ≡ false) (all : units ≡ inserted k u (order-of r)) where
   pub insert-once : Once units
-  insert-once = subst Once (sym all) (once-inserted k u (order-of r) (order-once r) (not-on u (order-of r) off))
+  insert-once = subst Once (sym all) (once-inserted k u (order-of r) (order-once r) (off-from-listed u (order-of r) off))
 
   pub insert-absent : Absent units (r .place)
   insert-absent w far = r .absent w (λ o. far (subst (On w) (sym all) (on-inserted k u (order-of r) w .1 (inr o))))

@@ -1,21 +1,20 @@
 -- What every rank table keeps, said of its order.
-use mathlib.Core.Bool.{Bool, true, false, not, cond, _&&_}
+use mathlib.Core.Bool.{true, false, not, _&&_}
 use mathlib.Core.List.{List, [], _∷_}
 use mathlib.Core.Logic.{_⊎_, inl, inr, ⊎-elim}
 use mathlib.Core.Path.{_≡_, refl, sym, ap, subst, _∙_}
 use Prim.Native.Nat.{ℕ, zero, suc, _+_, _-_, _≤_, _<_}
 use native.Mathlib.Omega.{arith}
-use lib.Dec.{T, eqb, leb}
+use lib.Dec.{eqb, leb}
 use lib.ListN.{length, getD}
 use Rattle.std.proofs.shelf.Lists.{getD-take, getD-past}
-use Rattle.std.proofs.shelf.Tests.{true≢false, cases-bool, cases-eq, cases-lt, cond-true, cond-false, eq-eqb, ne-eqb, and-from, le-leb}
+use Rattle.std.proofs.shelf.Tests.{cases-bool, cases-eq, cases-lt, cond-true, cond-false, eq-eqb, ne-eqb, and-from, le-leb}
 use Rattle.std.specs.declared.option.Option.{Option}
 use Rattle.std.specs.declared.option.Option.the-variants.{Some, None}
 use Rattle.theory.specs.Maps.{listed}
 use Rattle.theory.specs.Chains.{On}
 use Rattle.theory.specs.Ranks.{rankIn, Once}
-use Rattle.theory.proofs.Tests.{passes}
-use Rattle.theory.proofs.Distinct.{on-listed, at-on, on-at, rank-at, fewer}
+use Rattle.theory.proofs.Distinct.{on-from-listed, off-from-listed, listed-from-off, at-on, rank-at, fewer}
 use Rattle.ranks.specs.declared.table.Ranks.{Ranks}
 use Rattle.ranks.specs.Orders.{order-of, Lawful, rank-found, unit-found}
 
@@ -25,17 +24,6 @@ once-from f c [] h = tt
 once-from f c (x ∷ xs) h =
     (λ o. let p = at-on xs x o in let l = p .1 in omega (arith, h zero (omega arith), h (suc (p .0)) (omega arith), ap f (p .2)),
      once-from f (suc c) xs (λ i l. omega (arith, h (suc i) (omega arith))))
-
-failed : (b : Bool) → b ≡ false → T b → ⊥
-failed true e t = true≢false e
-failed false e t = t
-
-fails : (b : Bool) → (T b → ⊥) → b ≡ false
-fails true h = absurd (h tt)
-fails false h = refl
-
-pub not-on : (u : ℕ) (xs : List ℕ) → listed u xs ≡ false → On u xs → ⊥
-not-on u xs e o = failed (listed u xs) e (on-listed u xs .0 o)
 
 module _ (r : Ranks) where
   -- a place of the order, read from the array
@@ -80,15 +68,15 @@ module _ (r : Ranks) where
 
   -- a unit is in the order exactly where its rank is not 0
   pub off-order : (u : ℕ) → getD (r .place) u 0 ≡ 0 → listed u (order-of r) ≡ false
-  off-order u e = fails (listed u (order-of r)) (λ t. omega (arith, ranked u (on-listed u (order-of r) .1 t)))
+  off-order u e = listed-from-off u (order-of r) (λ o. omega (arith, ranked u o))
 
   pub on-order : (u : ℕ) → (getD (r .place) u 0 ≡ 0 → ⊥) → listed u (order-of r) ≡ true
-  on-order u ne = ⊎-elim (λ e. e) (λ e. absurd (ne (r .absent u (not-on u (order-of r) e)))) (cases-bool (listed u (order-of r)))
+  on-order u ne = ⊎-elim (λ e. e) (λ e. absurd (ne (r .absent u (off-from-listed u (order-of r) e)))) (cases-bool (listed u (order-of r)))
 
   -- where a unit with a rank stands
   place-of : (u : ℕ) → (getD (r .place) u 0 ≡ 0 → ⊥) → (i : ℕ) × (i < r .n) × (getD (r .order) i 0 ≡ u) × (getD (r .place) u 0 ≡ i + 1)
   place-of u ne =
-      let p = at-on (order-of r) u (on-listed u (order-of r) .1 (passes (listed u (order-of r)) (on-order u ne))) in
+      let p = at-on (order-of r) u (on-from-listed u (order-of r) (on-order u ne)) in
       let l = p .1 in
       (p .0, omega (arith, r .filled), sym (order-read (p .0) l) ∙ p .2, sym (ap (λ z. getD (r .place) z 0) (p .2)) ∙ rank-read (p .0) l)
 
@@ -103,7 +91,7 @@ module _ (r : Ranks) where
   pub rank-some : (u : ℕ) → (getD (r .place) u 0 ≡ 0 → ⊥) → Some (getD (r .place) u 0) ≡ rank-found (order-of r) u
   rank-some u ne =
       let t = on-order u ne in
-      ap Some (rank-is u (on-listed u (order-of r) .1 (passes (listed u (order-of r)) t))) ∙ sym (cond-true (listed u (order-of r)) (Some (rankIn (order-of r) u)) None t)
+      ap Some (rank-is u (on-from-listed u (order-of r) t)) ∙ sym (cond-true (listed u (order-of r)) (Some (rankIn (order-of r) u)) None t)
 
   pub unit-some : (rank : ℕ) → 1 ≤ rank → rank ≤ r .n → Some (getD (r .order) (rank - 1) 0) ≡ unit-found (order-of r) rank
   unit-some rank one most =
@@ -127,4 +115,4 @@ module _ (r : Ranks) where
   pub room : (u : ℕ) → 1 ≤ u → u ≤ 255 → listed u (order-of r) ≡ false → r .n < 255
   room u one most far =
       let l = order-lawful in
-      omega (arith, r .filled, fewer 255 (order-of r) (l .once) (l .low) (l .high) u one most (not-on u (order-of r) far))
+      omega (arith, r .filled, fewer 255 (order-of r) (l .once) (l .low) (l .high) u one most (off-from-listed u (order-of r) far))

@@ -4,6 +4,7 @@ ghost use mathlib.Core.List.{[]};
 ghost use mathlib.Core.Path.{_≡_};
 ghost use Prim.Native.Nat.{ℕ, _+_, _-_, _<_, _≤_};
 ghost use lib.ListN.{length, getD, take};
+ghost use Rattle.std.specs.Options.{Cases};
 ghost use Rattle.theory.specs.Chains.{On};
 ghost use Rattle.theory.specs.Maps.{listed};
 ghost use Rattle.theory.specs.Ranks.{Once, inserted, removed, moved};
@@ -131,5 +132,29 @@ impl Ranks {
         let n = self.n - 1;
         renumber(&order, n, rank - 1, &mut place);
         *self = Ranks { order, place, n };
+    }
+
+    // Moves `u` to rank k + 1: below the first k of the others.
+    pub fn move_to(&mut self, k: u8, u: u8)
+        requires there { ⌜ listed u (order-of (now self)) ≡ true ⌝ }
+        requires within { ⌜ k < length (order-of (now self)) ⌝ }
+        ensures { λ _. ⌜ order-of (now (self .exit)) ≡ moved k u (order-of (now (self .entry))) ⌝ }
+    {
+        self.remove(u);
+        self.insert(k, u);
+    }
+
+    // The table of a whole order, the highest unit first; none where a number is 0 or stands twice.
+    pub fn from_slice(units: &[u8]) -> Option<Ranks>
+        ensures { λ r. ⌜ Cases r (Lawful (now (units .entry)) → ⊥) (λ t. order-of t ≡ now (units .entry)) ⌝ }
+    {
+        let mut ranks = Ranks::empty();
+        for u in units {
+            if *u == 0 || ranks.holds(*u) {
+                return None;
+            }
+            ranks.insert(ranks.len(), *u);
+        }
+        Some(ranks)
     }
 }

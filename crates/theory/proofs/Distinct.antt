@@ -1,25 +1,35 @@
 -- Lists of different numbers: where each stands, what a change leaves different, and how many there can be.
 use mathlib.Core.Path.{_≡_, refl, sym, subst, ap, _∙_}
+use mathlib.Core.Bool.{true, false}
 use mathlib.Core.List.{List, [], _∷_}
 use mathlib.Core.Logic.{_↔_, _≢_, _⊎_, inl, inr, ⊎-elim}
 use Prim.Native.Nat.{ℕ, zero, suc, _≤_, _<_}
 use native.Mathlib.Omega.{arith}
 use lib.Dec.{T, eqb, eqb→eq, eqb-refl}
 use lib.ListN.{length, getD}
-use Rattle.std.proofs.shelf.Tests.{cases-eq, cond-true, cond-false, eq-eqb, ne-eqb}
+use Rattle.std.proofs.shelf.Tests.{both-ways, cases-bool, cases-eq, cond-true, cond-false, eq-eqb, ne-eqb}
 use Rattle.theory.specs.Maps.{listed}
 use Rattle.theory.specs.Chains.{On}
 use Rattle.theory.specs.Ranks.{rankIn, Once, inserted, removed}
-use Rattle.theory.proofs.Tests.{or-either, or-fst, or-snd}
+use Rattle.theory.proofs.Tests.{or-either, or-fst, or-snd, passes, passed}
 
 -- ---- membership as a test
 
-pub on-listed : (u : ℕ) (xs : List ℕ) → On u xs ↔ T (listed u xs)
+on-listed : (u : ℕ) (xs : List ℕ) → On u xs ↔ T (listed u xs)
 on-listed u [] = (λ o. o, λ t. t)
 on-listed u (x ∷ xs) =
     let ih = on-listed u xs in
     (⊎-elim (λ e. or-fst (eqb u x) (listed u xs) (subst (λ z. T (eqb u z)) e (eqb-refl u))) (λ o. or-snd (eqb u x) (listed u xs) (ih .0 o)),
      λ t. ⊎-elim (λ h. inl (eqb→eq u x h)) (λ h. inr (ih .1 h)) (or-either (eqb u x) (listed u xs) t))
+
+pub on-from-listed : (u : ℕ) (xs : List ℕ) → listed u xs ≡ true → On u xs
+on-from-listed u xs e = on-listed u xs .1 (passes (listed u xs) e)
+
+pub off-from-listed : (u : ℕ) (xs : List ℕ) → listed u xs ≡ false → On u xs → ⊥
+off-from-listed u xs e o = both-ways (listed u xs) e (passed (listed u xs) (on-listed u xs .0 o))
+
+pub listed-from-off : (u : ℕ) (xs : List ℕ) → (On u xs → ⊥) → listed u xs ≡ false
+listed-from-off u xs far = ⊎-elim (λ t. absurd (far (on-from-listed u xs t))) (λ e. e) (cases-bool (listed u xs))
 
 -- ---- places
 
@@ -75,7 +85,7 @@ once-removed (y ∷ ys) x h = go (cases-eq y x) (once-removed ys x (h .1))
     go (inr ne) ih = subst Once (sym (removed-next y ys x ne)) (λ o. h .0 (on-removed ys x y .0 o .0), ih)
 
 -- one number less at most
-length-removed : (xs : List ℕ) (x : ℕ) → Once xs → length xs ≤ suc (length (removed x xs))
+pub length-removed : (xs : List ℕ) (x : ℕ) → Once xs → length xs ≤ suc (length (removed x xs))
 length-removed [] x h = omega arith
 length-removed (y ∷ ys) x h = go (cases-eq y x) (length-removed ys x (h .1))
   where

@@ -3,9 +3,9 @@ use Prim.Native.Nat.{_-_}
 use native.Mathlib.Omega.{arith}
 use lib.ListN.{take}
 use Rattle.std.proofs.shelf.Lists.{length-take-le}
-use Rattle.theory.proofs.Distinct.{removed-none}
+use Rattle.theory.proofs.Distinct.{off-from-listed, removed-none}
 use Rattle.ranks.specs.Orders.{order-of}
-use Rattle.ranks.proofs.Tables.{order-once, off-order, not-on, rank-within}
+use Rattle.ranks.proofs.Tables.{order-once, off-order, rank-within}
 use Rattle.ranks.proofs.Changes.{remove-is, remove-once, remove-absent, remove-zero, remove-before}
 use Rattle.ranks.proofs.table.Ranks.remove.Needs as need
 
@@ -13,7 +13,7 @@ pub returns-then-rank-eq0 : need.returns-then-rank-eq0
 returns-then-rank-eq0 c =
     let r = c .args .self .now in
     let u = c .args .u in
-    sym (removed-none u (order-of r) (not-on u (order-of r) (off-order r u (c .if-rank-eq0 .taken))))
+    sym (removed-none u (order-of r) (off-from-listed u (order-of r) (off-order r u (c .if-rank-eq0 .taken))))
 
 pub take-out-requires : need.take-out-requires
 take-out-requires c κs =
