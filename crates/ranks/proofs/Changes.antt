@@ -1,17 +1,17 @@
 -- What a table's places are, once a unit is put into its order or taken out.
-use mathlib.Core.Bool.{true, false}
+use mathlib.Core.Bool.{false}
 use mathlib.Core.List.{List}
-use mathlib.Core.Logic.{_⊎_, inl, inr, ⊎-elim}
-use mathlib.Core.Path.{_≡_, refl, sym, ap, subst, _∙_}
-use Prim.Native.Nat.{ℕ, _+_, _-_, _≤_, _<_}
+use mathlib.Core.Logic.{inr, ⊎-elim}
+use mathlib.Core.Path.{_≡_, sym, ap, subst, _∙_}
+use Prim.Native.Nat.{ℕ, _-_, _≤_, _<_}
 use native.Mathlib.Omega.{arith}
-use lib.ListN.{length, getD, set, take}
+use lib.ListN.{getD, set}
 use Rattle.std.proofs.shelf.Lists.{getD-set-same, getD-set-other}
 use Rattle.std.proofs.shelf.Tests.{cases-eq}
 use Rattle.theory.specs.Maps.{listed}
 use Rattle.theory.specs.Chains.{On}
 use Rattle.theory.specs.Ranks.{Once, inserted, removed}
-use Rattle.theory.proofs.Distinct.{off-from-listed, listed-from-off, on-inserted, once-inserted, on-removed, once-removed}
+use Rattle.theory.proofs.Distinct.{off-from-listed, on-inserted, once-inserted, on-removed, once-removed}
 use Rattle.ranks.specs.declared.table.Ranks.{Ranks}
 use Rattle.ranks.specs.Places.{Numbered, Absent}
 use Rattle.ranks.specs.Orders.{order-of}

@@ -2,14 +2,13 @@
 use mathlib.Core.Bool.{true, false, not, _&&_}
 use mathlib.Core.List.{List, [], _∷_}
 use mathlib.Core.Logic.{_⊎_, inl, inr, ⊎-elim}
-use mathlib.Core.Path.{_≡_, refl, sym, ap, subst, _∙_}
+use mathlib.Core.Path.{_≡_, sym, ap, subst, _∙_}
 use Prim.Native.Nat.{ℕ, zero, suc, _+_, _-_, _≤_, _<_}
 use native.Mathlib.Omega.{arith}
 use lib.Dec.{eqb, leb}
 use lib.ListN.{length, getD}
 use Rattle.std.proofs.shelf.Lists.{getD-take, getD-past}
 use Rattle.std.proofs.shelf.Tests.{cases-bool, cases-eq, cases-lt, cond-true, cond-false, eq-eqb, ne-eqb, and-from, le-leb}
-use Rattle.std.specs.declared.option.Option.{Option}
 use Rattle.std.specs.declared.option.Option.the-variants.{Some, None}
 use Rattle.theory.specs.Maps.{listed}
 use Rattle.theory.specs.Chains.{On}
@@ -21,9 +20,10 @@ use Rattle.ranks.specs.Orders.{order-of, Lawful, rank-found, unit-found}
 -- what an inverse tells apart is different
 once-from : (f : ℕ → ℕ) (c : ℕ) (xs : List ℕ) → ((i : ℕ) → i < length xs → f (getD xs i 0) ≡ i + c) → Once xs
 once-from f c [] h = tt
-once-from f c (x ∷ xs) h =
-    (λ o. let p = at-on xs x o in let l = p .1 in omega (arith, h zero (omega arith), h (suc (p .0)) (omega arith), ap f (p .2)),
-     once-from f (suc c) xs (λ i l. omega (arith, h (suc i) (omega arith))))
+once-from f c (x ∷ xs) h = (
+  λ o. let p = at-on xs x o in let l = p .1 in omega (arith, h zero (omega arith), h (suc (p .0)) (omega arith), ap f (p .2)),
+  once-from f (suc c) xs (λ i l. omega (arith, h (suc i) (omega arith))),
+)
 
 module _ (r : Ranks) where
   -- a place of the order, read from the array

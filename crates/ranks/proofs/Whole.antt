@@ -2,12 +2,12 @@
 use mathlib.Core.Bool.{true}
 use mathlib.Core.List.{List, [], _∷_, _++_}
 use mathlib.Core.Path.{_≡_, refl, sym, ap, _∙_}
-use Prim.Native.Nat.{ℕ, suc, _+_, _<_}
+use Prim.Native.Nat.{ℕ, _+_, _<_}
 use native.Mathlib.Omega.{arith}
 use lib.ListN.{length, getD, take}
 use Rattle.std.proofs.shelf.Lists.{length-take-le, getD-take, take-more}
 use Rattle.theory.specs.Maps.{listed}
-use Rattle.theory.specs.Ranks.{rankIn, Once, inserted}
+use Rattle.theory.specs.Ranks.{rankIn, inserted}
 use Rattle.theory.proofs.Distinct.{on-from-listed, on-at, at-on, rank-at}
 use Rattle.ranks.specs.Orders.{Lawful}
 

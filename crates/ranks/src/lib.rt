@@ -60,14 +60,17 @@ impl Ranks {
     pub fn empty() -> Ranks
         ensures { λ r. ⌜ order-of r ≡ [] ⌝ }
     {
-        Ranks { order: [0; 255], place: [0; 256], n: 0 }
+        Ranks {
+            order: [0; 255],
+            place: [0; 256],
+            n: 0,
+        }
     }
 
     // What every table keeps.
     pub fn lawful(&self)
         ensures { λ _. ⌜ Lawful (order-of (now (self .entry))) ⌝ }
-    {
-    }
+    {}
 
     // How many units have a rank.
     pub fn len(&self) -> u8
@@ -92,7 +95,11 @@ impl Ranks {
     pub fn unit_at(&self, rank: u8) -> Option<u8>
         ensures { λ r. ⌜ r ≡ unit-found (order-of (now (self .entry))) rank ⌝ }
     {
-        if 1 <= rank && rank <= self.n { Some(self.order[rank as usize - 1]) } else { None }
+        if 1 <= rank && rank <= self.n {
+            Some(self.order[rank as usize - 1])
+        } else {
+            None
+        }
     }
 
     // The units, the highest first.

@@ -18,9 +18,10 @@ use Rattle.theory.proofs.Tests.{or-either, or-fst, or-snd, passes, passed}
 on-listed : (u : ℕ) (xs : List ℕ) → On u xs ↔ T (listed u xs)
 on-listed u [] = (λ o. o, λ t. t)
 on-listed u (x ∷ xs) =
-    let ih = on-listed u xs in
-    (⊎-elim (λ e. or-fst (eqb u x) (listed u xs) (subst (λ z. T (eqb u z)) e (eqb-refl u))) (λ o. or-snd (eqb u x) (listed u xs) (ih .0 o)),
-     λ t. ⊎-elim (λ h. inl (eqb→eq u x h)) (λ h. inr (ih .1 h)) (or-either (eqb u x) (listed u xs) t))
+    let ih = on-listed u xs in (
+      ⊎-elim (λ e. or-fst (eqb u x) (listed u xs) (subst (λ z. T (eqb u z)) e (eqb-refl u))) (λ o. or-snd (eqb u x) (listed u xs) (ih .0 o)),
+      λ t. ⊎-elim (λ h. inl (eqb→eq u x h)) (λ h. inr (ih .1 h)) (or-either (eqb u x) (listed u xs) t),
+    )
 
 pub on-from-listed : (u : ℕ) (xs : List ℕ) → listed u xs ≡ true → On u xs
 on-from-listed u xs e = on-listed u xs .1 (passes (listed u xs) e)
@@ -119,12 +120,12 @@ at-most (suc n) xs once low high =
     let rest = removed (suc n) xs in
     let back : (u : ℕ) → On u rest → On u xs × (u ≢ suc n) = λ u. on-removed xs (suc n) u .0 in
     let others =
-        at-most n rest (once-removed xs (suc n) once) (λ u o. low u (back u o .0)) (λ u o. let h = high u (back u o .0) in let ne = back u o .1 in omega arith) in
+    at-most n rest (once-removed xs (suc n) once) (λ u o. low u (back u o .0)) (λ u o. let h = high u (back u o .0) in let ne = back u o .1 in omega arith) in
     omega (arith, length-removed xs (suc n) once)
 
 -- and fewer where one of those numbers is missing
 pub fewer : (n : ℕ) (xs : List ℕ) → Once xs → ((u : ℕ) → On u xs → 1 ≤ u) → ((u : ℕ) → On u xs → u ≤ n) → (v : ℕ) → 1 ≤ v → v ≤ n → (On v xs → ⊥) → length xs < n
 fewer n xs once low high v one most far =
     let all =
-        at-most n (v ∷ xs) (far, once) (λ u. ⊎-elim (λ e. omega arith) (low u)) (λ u. ⊎-elim (λ e. omega arith) (high u)) in
+    at-most n (v ∷ xs) (far, once) (λ u. ⊎-elim (λ e. omega arith) (low u)) (λ u. ⊎-elim (λ e. omega arith) (high u)) in
     omega arith

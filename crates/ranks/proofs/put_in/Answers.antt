@@ -1,3 +1,4 @@
+-- The last unit is written where the others have made room.
 use mathlib.Core.Logic.{_≢_}
 use mathlib.Core.Path.{_≡_, _∙_}
 use Prim.Native.Nat.{ℕ, _<_}

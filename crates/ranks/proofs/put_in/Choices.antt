@@ -1,3 +1,4 @@
+-- Down to j nothing has moved, and above j each unit has moved down by one.
 use mathlib.Core.Path.{_≡_}
 use Prim.Native.Nat.{ℕ, _-_, _<_, _≤_}
 use lib.ListN.{length, getD}

@@ -1,3 +1,4 @@
+-- Each turn numbers one unit, and no other number has its place.
 use mathlib.Core.Path.{_≡_, sym, subst, _∙_}
 use Prim.Native.Nat.{ℕ, _+_}
 use native.Mathlib.Omega.{arith}
@@ -18,7 +19,7 @@ loop-j-again c =
     let inv = c .loop-j .inv in (
       length-set place u (j + 1) ∙ inv .0,
       below-more (λ i. getD (set place u (j + 1)) (getD order i 0) 0 ≡ i + 1) j
-      (λ i h. getD-set-other place u (getD order i 0) (j + 1) 0 (λ e. omega (arith, apart order n i j (omega arith) (c .pre .once) (omega arith) (omega arith) e)) ∙ inv .1 i h)
-      (getD-set-same place u (j + 1) 0 (omega arith)),
+          (λ i h. getD-set-other place u (getD order i 0) (j + 1) 0 (λ e. omega (arith, apart order n i j (omega arith) (c .pre .once) (omega arith) (omega arith) e)) ∙ inv .1 i h)
+          (getD-set-same place u (j + 1) 0 (omega arith)),
       (λ w far. getD-set-other place u w (j + 1) 0 (λ e. far (subst (λ (z : ℕ). On z (take n order)) (sym e) (on-order order n j (omega arith) (omega arith)))) ∙ inv .2 w far),
     )

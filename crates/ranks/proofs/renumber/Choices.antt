@@ -1,3 +1,4 @@
+-- The units up to j have their ranks, and numbers that are not in the order keep what they had.
 use mathlib.Core.Path.{_≡_}
 use Prim.Native.Nat.{ℕ}
 use lib.ListN.{length, getD, take}

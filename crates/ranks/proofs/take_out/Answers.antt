@@ -1,3 +1,4 @@
+-- Each turn moves one unit up.
 use mathlib.Core.Logic.{_≢_}
 use mathlib.Core.Path.{_≡_, _∙_}
 use Prim.Native.Nat.{ℕ, _+_, _≤_}
@@ -18,7 +19,7 @@ loop-j-again c =
       length-set now j v ∙ inv .0,
       (λ i h. other i (λ e. omega arith) ∙ inv .1 i h),
       below-more (λ i. c .args .k ≤ i → getD (set now j v) i 0 ≡ getD (c .args .order .now) (i + 1) 0) j (λ i h l. other i (λ e. omega arith) ∙ inv .2 i h l)
-      (λ l. getD-set-same now j v 0 (omega arith) ∙ inv .3 (j + 1) (omega arith)),
+          (λ l. getD-set-same now j v 0 (omega arith) ∙ inv .3 (j + 1) (omega arith)),
       (λ i h. other i (λ e. omega arith) ∙ inv .3 i (omega arith)),
     )
 

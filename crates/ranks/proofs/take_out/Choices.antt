@@ -1,3 +1,4 @@
+-- From k up to j each unit has moved up by one, and the others have not moved.
 use mathlib.Core.Path.{_≡_}
 use Prim.Native.Nat.{ℕ, _+_, _<_, _≤_}
 use lib.ListN.{length, getD}

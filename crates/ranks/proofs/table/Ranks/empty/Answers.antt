@@ -1,3 +1,4 @@
+-- No number has a rank in an array of zeros.
 use mathlib.Core.Path.{_≡_, refl}
 use Prim.Native.Nat.{ℕ, zero, suc}
 use native.Mathlib.Omega.{arith}

@@ -1,4 +1,5 @@
-use mathlib.Core.Path.{_≡_, sym, ap, _∙_}
+-- The order so far is the front of the slice; a refused number breaks the law.
+use mathlib.Core.Path.{sym, ap, _∙_}
 use lib.ListN.{getD}
 use Rattle.std.proofs.shelf.Lists.{take-all}
 use Rattle.theory.specs.Ranks.{inserted}
@@ -13,8 +14,8 @@ returns-then-u-eq0 c law =
     let i = c .loop-u .u-index in
     let h = c .loop-u-test .taken in
     elim (c .then-u-eq0 .came) [
-    | then-u-eq0·by·then-u-eq0 w ↦ not-zero units i h law (w .if-u-eq0 .taken)
-    | then-u-eq0·by·else-u-eq0·then-holds w ↦ not-twice units i h law (order-of (c .loop-u .ranks)) (c .loop-u .inv) (sym (w .holds .ensures) ∙ w .if-holds .taken)
+      | then-u-eq0·by·then-u-eq0 w ↦ not-zero units i h law (w .if-u-eq0 .taken)
+      | then-u-eq0·by·else-u-eq0·then-holds w ↦ not-twice units i h law (order-of (c .loop-u .ranks)) (c .loop-u .inv) (sym (w .holds .ensures) ∙ w .if-holds .taken)
     ]
 
 pub loop-u-again : need.loop-u-again

@@ -1,3 +1,4 @@
+-- The table holds the units so far.
 use mathlib.Core.Path.{_≡_}
 use lib.ListN.{take}
 use Rattle.ranks.specs.Orders.{order-of}

@@ -1,8 +1,9 @@
-use mathlib.Core.Path.{_≡_, _∙_}
+-- There is room, and the ranks are numbered anew from the place on.
+use mathlib.Core.Path.{_∙_}
 use Prim.Native.Nat.{_+_}
 use native.Mathlib.Omega.{arith}
 use borrow.Author.Needs.{needs}
-use lib.ListN.{length, take}
+use lib.ListN.{take}
 use Rattle.std.proofs.shelf.Lists.{length-take-le}
 use Rattle.ranks.proofs.Tables.{room}
 use Rattle.ranks.proofs.Changes.{insert-once, insert-absent, insert-zero, insert-before}
@@ -40,7 +41,10 @@ ghost-self c =
     let kept = c .renumber .ensures .kept in
     let few = room r u (c .pre .unit) (omega arith) (c .pre .absent) in
     let absent = insert-absent r (c .args .k) u (take (r .n + 1) new) (c .pre .absent) (c .put-in .ensures .all) in
-    let far = insert-zero r (c .args .k) u (take (r .n + 1) new) (c .pre .absent) (c .put-in .ensures .all) (c .pre .unit) in
-    (length-take-le (r .n + 1) new (omega arith),
-     (c .renumber .array-long,
-      (kept 0 far ∙ absent 0 far, (c .renumber .ensures .numbered, (λ w out. kept w out ∙ absent w out, tt)))))
+    let far = insert-zero r (c .args .k) u (take (r .n + 1) new) (c .pre .absent) (c .put-in .ensures .all) (c .pre .unit) in (
+      length-take-le (r .n + 1) new (omega arith),
+      (
+        c .renumber .array-long,
+        (kept 0 far ∙ absent 0 far, (c .renumber .ensures .numbered, (λ w out. kept w out ∙ absent w out, tt))),
+      ),
+    )

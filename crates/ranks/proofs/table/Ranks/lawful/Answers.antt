@@ -1,3 +1,4 @@
+-- A table keeps the law of orders.
 use Rattle.ranks.proofs.Tables.{order-lawful}
 use Rattle.ranks.proofs.table.Ranks.lawful.Needs as need
 

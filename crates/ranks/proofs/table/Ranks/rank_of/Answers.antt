@@ -1,3 +1,4 @@
+-- A rank that is not 0 is the rank in the order.
 use Rattle.ranks.proofs.Tables.{rank-none, rank-some}
 use Rattle.ranks.proofs.table.Ranks.rank_of.Needs as need
 

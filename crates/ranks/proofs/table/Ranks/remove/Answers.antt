@@ -1,4 +1,5 @@
-use mathlib.Core.Path.{_≡_, sym, _∙_}
+-- The unit is at its rank, and the ranks are numbered anew from there on.
+use mathlib.Core.Path.{sym, _∙_}
 use Prim.Native.Nat.{_-_}
 use native.Mathlib.Omega.{arith}
 use lib.ListN.{take}
@@ -43,9 +44,10 @@ ghost-self c =
     let all = c .take-out .ensures .all in
     let kept = c .renumber .ensures .kept in
     let absent = remove-absent r u units on all (omega arith) in
-    let far = remove-zero r u units on all in
-    (length-take-le (r .n - 1) (c .take-out .last .order) (omega arith),
-     (c .renumber .array-long, (kept 0 far ∙ absent 0 far, (c .renumber .ensures .numbered, (λ w out. kept w out ∙ absent w out, tt)))))
+    let far = remove-zero r u units on all in (
+      length-take-le (r .n - 1) (c .take-out .last .order) (omega arith),
+      (c .renumber .array-long, (kept 0 far ∙ absent 0 far, (c .renumber .ensures .numbered, (λ w out. kept w out ∙ absent w out, tt)))),
+    )
 
 pub returns : need.returns
 returns c =

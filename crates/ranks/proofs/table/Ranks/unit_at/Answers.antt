@@ -1,3 +1,4 @@
+-- A rank within the order has its unit.
 use native.Mathlib.Omega.{arith}
 use Rattle.ranks.proofs.Tables.{unit-some}
 use Rattle.ranks.proofs.table.Ranks.unit_at.Needs as need
