@@ -5,17 +5,17 @@ use mathlib.Core.Logic.{_⊎_, inl, inr, ⊎-elim}
 use mathlib.Core.Path.{_≡_, sym, ap, subst, _∙_}
 use Prim.Native.Nat.{ℕ, zero, suc, _+_, _-_, _≤_, _<_}
 use native.Mathlib.Omega.{arith}
-use lib.Dec.{eqb, leb}
+use lib.Dec.{leb}
 use lib.ListN.{length, getD}
 use Rattle.std.proofs.shelf.Lists.{getD-take, getD-past}
-use Rattle.std.proofs.shelf.Tests.{cases-bool, cases-eq, cases-lt, cond-true, cond-false, eq-eqb, ne-eqb, and-from, le-leb}
+use Rattle.std.proofs.shelf.Tests.{cases-bool, cases-lt, cond-true, and-from, le-leb}
 use Rattle.std.specs.declared.option.Option.the-variants.{Some, None}
 use Rattle.theory.specs.Maps.{listed}
 use Rattle.theory.specs.Chains.{On}
 use Rattle.theory.specs.Ranks.{rankIn, Once}
 use Rattle.theory.proofs.Distinct.{on-from-listed, off-from-listed, listed-from-off, at-on, rank-at, fewer}
 use Rattle.ranks.specs.declared.table.Ranks.{Ranks}
-use Rattle.ranks.specs.Orders.{order-of, Lawful, rank-found, unit-found}
+use Rattle.ranks.specs.Orders.{order-of, Lawful, unit-found}
 
 -- what an inverse tells apart is different
 once-from : (f : ℕ → ℕ) (c : ℕ) (xs : List ℕ) → ((i : ℕ) → i < length xs → f (getD xs i 0) ≡ i + c) → Once xs
@@ -79,19 +79,6 @@ module _ (r : Ranks) where
       let p = at-on (order-of r) u (on-from-listed u (order-of r) (on-order u ne)) in
       let l = p .1 in
       (p .0, omega (arith, r .filled), sym (order-read (p .0) l) ∙ p .2, sym (ap (λ z. getD (r .place) z 0) (p .2)) ∙ rank-read (p .0) l)
-
-  pub holds-is : (u : ℕ) → not (eqb (getD (r .place) u 0) 0) ≡ listed u (order-of r)
-  holds-is u =
-      ⊎-elim (λ e. ap not (eq-eqb (getD (r .place) u 0) 0 e) ∙ sym (off-order u e)) (λ ne. ap not (ne-eqb (getD (r .place) u 0) 0 ne) ∙ sym (on-order u ne))
-      (cases-eq (getD (r .place) u 0) 0)
-
-  pub rank-none : (u : ℕ) → getD (r .place) u 0 ≡ 0 → None ≡ rank-found (order-of r) u
-  rank-none u e = sym (cond-false (listed u (order-of r)) (Some (rankIn (order-of r) u)) None (off-order u e))
-
-  pub rank-some : (u : ℕ) → (getD (r .place) u 0 ≡ 0 → ⊥) → Some (getD (r .place) u 0) ≡ rank-found (order-of r) u
-  rank-some u ne =
-      let t = on-order u ne in
-      ap Some (rank-is u (on-from-listed u (order-of r) t)) ∙ sym (cond-true (listed u (order-of r)) (Some (rankIn (order-of r) u)) None t)
 
   pub unit-some : (rank : ℕ) → 1 ≤ rank → rank ≤ r .n → Some (getD (r .order) (rank - 1) 0) ≡ unit-found (order-of r) rank
   unit-some rank one most =

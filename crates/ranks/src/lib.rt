@@ -1,13 +1,14 @@
 // The rank table: which unit stands at each rank, and which rank each unit has. The unit at rank 1 is the highest.
-ghost use mathlib.Core.Bool.{true, false};
+ghost use mathlib.Core.Bool.{true, false, not, _&&_};
 ghost use mathlib.Core.List.{[]};
 ghost use mathlib.Core.Path.{_≡_};
 ghost use Prim.Native.Nat.{ℕ, _+_, _-_, _<_, _≤_};
+ghost use lib.Dec.{leb};
 ghost use lib.ListN.{length, getD, take};
 ghost use Rattle.std.specs.Options.{Cases};
 ghost use Rattle.theory.specs.Chains.{On};
 ghost use Rattle.theory.specs.Maps.{listed};
-ghost use Rattle.theory.specs.Ranks.{Once, inserted, removed, moved};
+ghost use Rattle.theory.specs.Ranks.{rankIn, Once, inserted, removed, moved};
 ghost use Rattle.ranks.specs.Places.{Numbered};
 ghost use Rattle.ranks.specs.Orders.{order-of, Lawful, rank-found, unit-found};
 
@@ -55,6 +56,13 @@ fn renumber(order: &[u8; 255], n: u8, k: u8, place: &mut [u8; 256])
     }
 }
 
+// The ranks where no unit has one.
+fn no_ranks() -> [u8; 256]
+    ensures { λ r. ⌜ ((u : ℕ) → getD r u 0 ≡ 0) ⌝ }
+{
+    [0; 256]
+}
+
 impl Ranks {
     // The table of no unit.
     pub fn empty() -> Ranks
@@ -62,7 +70,7 @@ impl Ranks {
     {
         Ranks {
             order: [0; 255],
-            place: [0; 256],
+            place: no_ranks(),
             n: 0,
         }
     }
@@ -79,19 +87,31 @@ impl Ranks {
         self.n
     }
 
+    // The rank of `u`, and 0 where it has none.
+    fn rank_or_zero(&self, u: u8) -> u8
+        ensures none { λ r. ⌜ (r ≡ 0 → listed u (order-of (now (self .entry))) ≡ false) ⌝ }
+        ensures some { λ r. ⌜ ((r ≡ 0 → ⊥) → listed u (order-of (now (self .entry))) ≡ true) ⌝ }
+        ensures rank { λ r. ⌜ ((r ≡ 0 → ⊥) → r ≡ rankIn (order-of (now (self .entry))) u) ⌝ }
+    {
+        self.place[u as usize]
+    }
+
+    // Whether `u` is in the order.
     pub fn holds(&self, u: u8) -> bool
         ensures { λ r. ⌜ r ≡ listed u (order-of (now (self .entry))) ⌝ }
     {
-        self.place[u as usize] != 0
+        self.rank_or_zero(u) != 0
     }
 
+    // The rank of `u`, where it is in the order.
     pub fn rank_of(&self, u: u8) -> Option<u8>
         ensures { λ r. ⌜ r ≡ rank-found (order-of (now (self .entry))) u ⌝ }
     {
-        let rank = self.place[u as usize];
+        let rank = self.rank_or_zero(u);
         if rank == 0 { None } else { Some(rank) }
     }
 
+    // The unit at a rank, where there is one.
     pub fn unit_at(&self, rank: u8) -> Option<u8>
         ensures { λ r. ⌜ r ≡ unit-found (order-of (now (self .entry))) rank ⌝ }
     {
@@ -151,13 +171,20 @@ impl Ranks {
         self.insert(k, u);
     }
 
+    // Whether `u` is a unit's number that is not in the order.
+    fn is_new(&self, u: u8) -> bool
+        ensures { λ r. ⌜ r ≡ (leb 1 u && not (listed u (order-of (now (self .entry))))) ⌝ }
+    {
+        u >= 1 && !self.holds(u)
+    }
+
     // The table of a whole order, the highest unit first; none where a number is 0 or stands twice.
     pub fn from_slice(units: &[u8]) -> Option<Ranks>
         ensures { λ r. ⌜ Cases r (Lawful (now (units .entry)) → ⊥) (λ t. order-of t ≡ now (units .entry)) ⌝ }
     {
         let mut ranks = Ranks::empty();
         for u in units {
-            if *u == 0 || ranks.holds(*u) {
+            if !ranks.is_new(*u) {
                 return None;
             }
             ranks.insert(ranks.len(), *u);
