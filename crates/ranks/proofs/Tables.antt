@@ -55,7 +55,7 @@ module _ (r : Ranks) where
   order-high u o (inl b) = omega arith
   order-high u o (inr b) = absurd (omega (arith, ranked u o, getD-past (r .place) u 0 (omega (arith, r .wide))))
 
-  order-low : (u : ℕ) → On u (order-of r) → (1 ≤ u)
+  order-low : (u : ℕ) → On u (order-of r) → 1 ≤ u
   order-low zero o = absurd (omega (arith, ranked 0 o, r .zero))
   order-low (suc u) o = omega arith
 

@@ -75,7 +75,7 @@ impl Ranks {
         }
     }
 
-    // What every table keeps.
+    // Tells a caller what every table keeps: units from 1 to 255, each once.
     pub fn lawful(&self)
         ensures { λ _. ⌜ Lawful (order-of (now (self .entry))) ⌝ }
     {}
