@@ -24,3 +24,4 @@ pub mod Totals
 pub mod Bounds
 pub mod Whole
 pub mod Computed
+pub mod Distinct

@@ -1,0 +1,4 @@
+pub mod Tables
+pub mod Shifts
+pub mod Changes
+pub mod Whole
