@@ -11,7 +11,8 @@ use Rattle.std.proofs.shelf.Tests.{cases-eq}
 use Rattle.theory.specs.Maps.{listed}
 use Rattle.theory.specs.Chains.{On}
 use Rattle.theory.specs.Ranks.{Once, inserted, removed}
-use Rattle.theory.proofs.Distinct.{off-from-listed, on-inserted, once-inserted, on-removed, once-removed}
+use Rattle.theory.proofs.Distinct.{off-from-listed}
+use Rattle.theory.proofs.Ranks.{on-inserted, once-inserted, on-removed, once-removed}
 use Rattle.ranks.specs.declared.table.Ranks.{Ranks}
 use Rattle.ranks.specs.Places.{Numbered, Absent}
 use Rattle.ranks.specs.Orders.{order-of}

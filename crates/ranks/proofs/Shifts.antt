@@ -10,7 +10,8 @@ use Rattle.std.proofs.shelf.Edits.{length-inserted, getD-inserted-below, getD-i
 use Rattle.std.proofs.shelf.Tests.{cases-order, cases-lt}
 use Rattle.theory.specs.Chains.{On}
 use Rattle.theory.specs.Ranks.{rankIn, Once, inserted, removed}
-use Rattle.theory.proofs.Distinct.{on-at, rank-at, removed-here, removed-next, removed-none}
+use Rattle.theory.proofs.Distinct.{on-at, rank-at}
+use Rattle.theory.proofs.Ranks.{removed-here, removed-next, removed-none}
 
 inserted-is : (k v : ℕ) (xs : List ℕ) → inserted k v xs ≡ take k xs ++ v ∷ drop k xs
 inserted-is zero v xs = refl

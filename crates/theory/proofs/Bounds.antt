@@ -7,20 +7,18 @@ use Prim.Native.Nat.{ℕ, zero, suc, _+_, _-_, _≤_, _<_}
 use native.Mathlib.Omega.{arith}
 use lib.Dec.{T, ltb, ltb→lt, lt→ltb}
 use lib.ListN.{length}
-use Rattle.theory.specs.Maps.{Map, turned, listed}
+use Rattle.theory.specs.Maps.{Map, turned}
 use Rattle.theory.specs.Chains.{Onward, On, Heard, NoRing}
-use Rattle.theory.specs.Counts.{sum-below, one}
 use Rattle.theory.specs.Ranks.{rankIn, Once}
 use Rattle.theory.specs.Labels.{InLabel, isInLabel}
 use Rattle.theory.specs.Lists.{picked, inLabels, outLabels, sum, total}
-use Rattle.theory.specs.Sizes.{inward, Labels-bounded}
+use Rattle.theory.specs.Sizes.{Labels-bounded}
 use Rattle.theory.proofs.Tests.{same-tests}
 use Rattle.theory.proofs.Maps.{turned-sound}
 use Rattle.theory.proofs.Chains.{goes, onward-append, heard-turned}
 use Rattle.theory.proofs.Ranks.{rank-here, rank-next, rank-pos}
 use Rattle.theory.proofs.Decide.{in-decided}
-use Rattle.theory.proofs.Lists.{listed-on}
-use Rattle.theory.proofs.Sizes.{Made, number-same, number-alone, list-number, row-number}
+use Rattle.theory.proofs.Distinct.{at-most}
 
 -- two units that hear each other are on a ring
 pub one-way : (m : Map) → NoRing m → (u v : ℕ) → u ≢ v → Heard m u v → Heard m v u → ⊥
@@ -29,34 +27,6 @@ one-way m none u v ne h k = let a = goes m u v h in let b = goes m v u k in go (
     go : (c : List ℕ) → Onward m u c v → (d : List ℕ) → Onward m v d u → T (m .unit u) → ⊥
     go [] e d i unit = ne e
     go (x ∷ c) h d i unit = none u (u ∷ x ∷ (c ++ d)) ((refl, unit, onward-append m u v u (x ∷ c) d h i), omega arith)
-
--- ---- lists of units
-
--- a test that fails at 0 passes at most n of the numbers up to n
-few : (f : ℕ → Bool) (n : ℕ) → (T (f 0) → ⊥) → sum-below (λ k. one (f k)) (suc n) ≤ n
-unfolding sum-below
-few f zero far = let z = none (f 0) far in omega arith
-  where
-    none : (b : Bool) → (T b → ⊥) → one b ≡ 0
-    none true k = absurd (k tt)
-    none false k = refl
-few f (suc n) far = let rest = few f n far in let here = most (f (suc n)) in omega arith
-  where
-    most : (b : Bool) → one b ≤ 1
-    most true = omega arith
-    most false = omega arith
-
--- a list of different numbers from 1 to 255 has at most 255
-at-most-255 : (xs : List ℕ) → Once xs → ((x : ℕ) → On x xs → (1 ≤ x) × (x ≤ 255)) → length xs ≤ 255
-at-most-255 xs once range =
-    let e = number-alone (Made (inward 0) (λ x. On x xs)) (length xs) (sum-below (λ k. one (listed k xs)) 256) (list-number (inward 0) (λ x y e. cc) xs once)
-    (number-same (Made (inward 0) (λ x. (x < 256) × T (listed x xs))) (Made (inward 0) (λ x. On x xs)) (sum-below (λ k. one (listed k xs)) 256)
-    (λ l. (λ (x, o, g). let r = range x o in let low : x < 256 = omega arith in (x, (low, listed-on x xs .1 o), g), λ (x, i, g). (x, listed-on x xs .0 (i .1), g)))
-    (row-number (inward 0) (λ x y e. cc) (λ k. listed k xs) 256)) in
-    let few255 : sum-below (λ k. one (listed k xs)) 256 ≤ 255 = few (λ k. listed k xs) 255 (λ t. let r = range 0 (listed-on 0 xs .0 t) in omega arith) in
-    omega arith
-
--- ---- how many are picked
 
 picked-same : (f g : ℕ → Bool) (xs : List ℕ) → ((x : ℕ) → On x xs → f x ≡ g x) → picked f xs ≡ picked g xs
 picked-same f g [] e = refl
@@ -113,8 +83,6 @@ higher-few (x ∷ xs) once (suc n) = go (ltb (rankIn (x ∷ xs) x) (suc (suc n))
         at true e = omega arith
         at false e = omega arith
 
--- ---- sums
-
 sum-most : (xs : List ℕ) (f g : ℕ → ℕ) → ((x : ℕ) → On x xs → f x ≤ g x) → sum xs f ≤ sum xs g
 unfolding sum
 sum-most [] f g le = omega arith
@@ -155,7 +123,7 @@ unfolding total
 labels-bounded m sound none order orders =
     let each = sum-most order (λ v. length (inLabels m order v) + length (outLabels m order v)) (λ v. rankIn order v - 1) at in
     let all = higher-sum order (orders .once) in
-    let units = at-most-255 order (orders .once) (λ x o. (sound .low x (orders .only x o), sound .high x (orders .only x o))) in
+    let units = at-most 255 order (orders .once) (λ x o. sound .low x (orders .only x o)) (λ x o. sound .high x (orders .only x o)) in
     let most = pairs-most (length order) 255 units in
     omega (arith, pairs-255)
   where

@@ -58,8 +58,6 @@ one-most : (a b : Bool) → (a ≡ true → b ≡ true) → one a ≤ one b
 one-most true b h = let e = ap one (h refl) in omega arith
 one-most false b h = omega arith
 
--- ---- sets
-
 pub count-same : (p q : ℕ → Bool) → ((k : ℕ) → p k ≡ q k) → count p ≡ count q
 unfolding count
 count-same p q e = sum-same (λ k. one (p k)) (λ k. one (q k)) 256 (λ k _. ap one (e k))
@@ -87,8 +85,6 @@ count-remove p q u small e there =
     let none : one (q u) ≡ 0 = ap one (e u ∙ ap (λ t. not t && p u) (eq-eqb u u refl)) in
     let moved = sum-change (λ k. one (p k)) (λ k. one (q k)) 256 u small (λ k d. ap one (sym (e k ∙ ap (λ t. not t && p k) (ne-eqb k u d)))) in
     omega arith
-
--- ---- pairings
 
 other-pair : (x y a b : ℕ) → (x ≡ a → y ≡ b → ⊥) → (eqb x a && eqb y b) ≡ false
 other-pair x y a b d = elim (cases-eq x a) [

@@ -9,6 +9,7 @@ pub mod Core
 pub mod Labels
 pub mod Decide
 pub mod Lists
+pub mod Distinct
 pub mod Shared
 pub mod Hidden
 pub mod Between
@@ -24,4 +25,3 @@ pub mod Totals
 pub mod Bounds
 pub mod Whole
 pub mod Computed
-pub mod Distinct

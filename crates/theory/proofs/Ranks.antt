@@ -92,7 +92,7 @@ once-removed (y ∷ ys) x h = go (cases-eq y x) (once-removed ys x (h .1))
     go (inl e) ih = subst Once (sym (removed-here y ys x e)) ih
     go (inr ne) ih = subst Once (sym (removed-next y ys x ne)) (λ o. h .0 (on-removed ys x y .0 o .0), ih)
 
-removed-none : (x : ℕ) (xs : List ℕ) → (On x xs → ⊥) → removed x xs ≡ xs
+pub removed-none : (x : ℕ) (xs : List ℕ) → (On x xs → ⊥) → removed x xs ≡ xs
 removed-none x [] far = refl
 removed-none x (y ∷ ys) far = removed-next y ys x (λ e. far (inl (sym e))) ∙ ap (λ l. y ∷ l) (removed-none x ys (λ o. far (inr o)))
 

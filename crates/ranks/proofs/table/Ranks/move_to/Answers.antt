@@ -4,7 +4,8 @@ use native.Mathlib.Omega.{arith}
 use lib.ListN.{length}
 use Rattle.theory.specs.Maps.{listed}
 use Rattle.theory.specs.Ranks.{removed}
-use Rattle.theory.proofs.Distinct.{on-from-listed, listed-from-off, on-removed, length-removed}
+use Rattle.theory.proofs.Distinct.{on-from-listed, listed-from-off, length-removed}
+use Rattle.theory.proofs.Ranks.{on-removed}
 use Rattle.ranks.specs.Orders.{order-of}
 use Rattle.ranks.proofs.Tables.{order-lawful}
 use Rattle.ranks.proofs.table.Ranks.move_to.Needs as need

@@ -4,7 +4,8 @@ use Prim.Native.Nat.{_-_}
 use native.Mathlib.Omega.{arith}
 use lib.ListN.{take}
 use Rattle.std.proofs.shelf.Lists.{length-take-le}
-use Rattle.theory.proofs.Distinct.{off-from-listed, removed-none}
+use Rattle.theory.proofs.Distinct.{off-from-listed}
+use Rattle.theory.proofs.Ranks.{removed-none}
 use Rattle.ranks.specs.Orders.{order-of}
 use Rattle.ranks.proofs.Tables.{order-once, off-order, rank-within}
 use Rattle.ranks.proofs.Changes.{remove-is, remove-once, remove-absent, remove-zero, remove-before}
