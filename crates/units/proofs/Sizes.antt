@@ -9,7 +9,7 @@ use lib.Dec.{eqb, lit<}
 use lib.Count.{ones, ones-step}
 use lib.ListN.{getD}
 use Rattle.theory.specs.Counts.{sum-below, one, count}
-use Rattle.theory.proofs.Counting.{sum-same}
+use Rattle.theory.proofs.Counting.{sum-none, sum-same}
 use Rattle.units.specs.Bit.{bit, member}
 use Rattle.units.proofs.Bits.{bit-low, bit-suc}
 use Rattle.units.proofs.Members.{member-read}
@@ -22,10 +22,6 @@ sum-parts f m (suc n) =
     let more : m + suc n ≡ suc (m + n) = omega arith in
     let rest = sum-parts f m n in
     ap (sum-below f) more ∙ omega arith
-
-sum-none : (f : ℕ → ℕ) → sum-below f 0 ≡ 0
-unfolding sum-below
-sum-none f = refl
 
 sum-first : (f : ℕ → ℕ) (n : ℕ) → sum-below f (suc n) ≡ f 0 + sum-below (λ k. f (suc k)) n
 unfolding sum-below
