@@ -100,7 +100,7 @@ other-pair x y a b d = elim (cases-eq x a) [
   | inr n ↦ and-left (eqb x a) (eqb y b) (ne-eqb x a n)
 ]
 
-sum-zero : (n : ℕ) → sum-below (λ k. 0) n ≡ 0
+pub sum-zero : (n : ℕ) → sum-below (λ k. 0) n ≡ 0
 unfolding sum-below
 sum-zero zero = refl
 sum-zero (suc n) = let rest = sum-zero n in omega arith

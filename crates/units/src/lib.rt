@@ -122,7 +122,8 @@ impl UnitSet {
 
     // How many members there are.
     pub fn len(&self) -> u16
-        ensures { λ r. ⌜ r ≡ count (has (now (self .entry))) ⌝ }
+        ensures number { λ r. ⌜ r ≡ count (has (now (self .entry))) ⌝ }
+        ensures most { λ r. ⌜ r ≤ 256 ⌝ }
     {
         let a = &self.words;
         set_bits(a[0]) + set_bits(a[1]) + set_bits(a[2]) + set_bits(a[3])
@@ -130,7 +131,8 @@ impl UnitSet {
 
     // How many numbers are in one of the sets and not in the other.
     pub fn difference_len(&self, other: &UnitSet) -> u16
-        ensures { λ r. ⌜ r ≡ count (λ k. xor (has (now (self .entry)) k) (has (now (other .entry)) k)) ⌝ }
+        ensures number { λ r. ⌜ r ≡ count (λ k. xor (has (now (self .entry)) k) (has (now (other .entry)) k)) ⌝ }
+        ensures most { λ r. ⌜ r ≤ 256 ⌝ }
     {
         self.symmetric_difference(other).len()
     }

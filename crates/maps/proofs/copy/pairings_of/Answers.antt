@@ -14,7 +14,7 @@ loop-a-again g c =
     let m = g .M·Map .meaning (c .args .from .now) in
     let next = sum-more (listener-count m) (c .loop-a .a) in
     let row = row-count m (c .loop-a .a) (has (c .listeners .result)) (c .listeners .ensures) in
-    let len = c .len .ensures in
+    let len = c .len .ensures .number in
     (omega arith, omega arith)
 
 pub returns : need.returns

@@ -10,4 +10,4 @@ pub returns : need.returns
 returns c =
     let xs = c .args .self .now .words in
     let all = size xs (each-four (λ i. getD xs i 0 < 2 ^ 64) (omega arith) (omega arith) (omega arith) (omega arith)) in
-    omega arith
+    record { number = omega arith; most = omega arith }
