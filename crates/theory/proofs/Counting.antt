@@ -68,6 +68,15 @@ pub count-same : (p q : ℕ → Bool) → ((k : ℕ) → p k ≡ q k) → count 
 unfolding count
 count-same p q e = sum-same (λ k. one (p k)) (λ k. one (q k)) 256 (λ k _. ap one (e k))
 
+ones-most : (p : ℕ → Bool) (n : ℕ) → sum-below (λ k. one (p k)) n ≤ n
+unfolding sum-below
+ones-most p zero = omega arith
+ones-most p (suc n) = let rest = ones-most p n in let here = one-most (p n) true (λ _. refl) in omega arith
+
+pub count-most : (p : ℕ → Bool) → count p ≤ 256
+unfolding count
+count-most p = ones-most p 256
+
 -- a smaller set, with one member of the larger gone
 pub count-falls : (p q : ℕ → Bool) (i : ℕ) → i < 256 → ((k : ℕ) → p k ≡ true → q k ≡ true) → p i ≡ false → q i ≡ true → count p < count q
 unfolding count
