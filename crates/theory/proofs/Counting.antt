@@ -9,6 +9,10 @@ use Rattle.std.proofs.shelf.Tests.{cases-eq, eq-eqb, ne-eqb, and-left, and-righ
 use Rattle.theory.specs.Maps.{Map, nothing, with-pair, without-pair}
 use Rattle.theory.specs.Counts.{sum-below, one, count, listener-count, pair-count}
 
+pub sum-none : (f : ℕ → ℕ) → sum-below f 0 ≡ 0
+unfolding sum-below
+sum-none f = refl
+
 pub sum-same : (f g : ℕ → ℕ) (n : ℕ) → ((k : ℕ) → k < n → f k ≡ g k) → sum-below f n ≡ sum-below g n
 unfolding sum-below
 sum-same f g zero e = refl
@@ -62,6 +66,15 @@ pub count-same : (p q : ℕ → Bool) → ((k : ℕ) → p k ≡ q k) → count 
 unfolding count
 count-same p q e = sum-same (λ k. one (p k)) (λ k. one (q k)) 256 (λ k _. ap one (e k))
 
+ones-most : (p : ℕ → Bool) (n : ℕ) → sum-below (λ k. one (p k)) n ≤ n
+unfolding sum-below
+ones-most p zero = omega arith
+ones-most p (suc n) = let rest = ones-most p n in let here = one-most (p n) true (λ _. refl) in omega arith
+
+pub count-most : (p : ℕ → Bool) → count p ≤ 256
+unfolding count
+count-most p = ones-most p 256
+
 -- a smaller set, with one member of the larger gone
 pub count-falls : (p q : ℕ → Bool) (i : ℕ) → i < 256 → ((k : ℕ) → p k ≡ true → q k ≡ true) → p i ≡ false → q i ≡ true → count p < count q
 unfolding count
@@ -92,7 +105,7 @@ other-pair x y a b d = elim (cases-eq x a) [
   | inr n ↦ and-left (eqb x a) (eqb y b) (ne-eqb x a n)
 ]
 
-sum-zero : (n : ℕ) → sum-below (λ k. 0) n ≡ 0
+pub sum-zero : (n : ℕ) → sum-below (λ k. 0) n ≡ 0
 unfolding sum-below
 sum-zero zero = refl
 sum-zero (suc n) = let rest = sum-zero n in omega arith
@@ -109,6 +122,17 @@ pair-count-change m n a b ha hb e =
     let row = sum-change (λ y. one (m .pair a y)) (λ y. one (n .pair a y)) 256 b hb (λ y d. ap one (e a y (λ _ s. d s))) in
     let rows = sum-change (listener-count m) (listener-count n) 256 a ha (λ x d. sum-same (λ y. one (m .pair x y)) (λ y. one (n .pair x y)) 256 (λ y _. ap one (e x y (λ s _. d s)))) in
     omega arith
+
+-- a smaller map, with one pairing of the larger gone
+pub pair-count-falls : (m n : Map) (a b : ℕ) → a < 256 → b < 256 → ((x y : ℕ) → m .pair x y ≡ true → n .pair x y ≡ true)
+    → m .pair a b ≡ false → n .pair a b ≡ true → pair-count m < pair-count n
+unfolding pair-count listener-count
+pair-count-falls m n a b ha hb sub gone there =
+    let none : one (m .pair a b) ≡ 0 = ap one gone in
+    let some : one (n .pair a b) ≡ 1 = ap one there in
+    sum-falls (listener-count m) (listener-count n) 256 a ha
+    (λ x. sum-most (λ y. one (m .pair x y)) (λ y. one (n .pair x y)) 256 (λ y. one-most (m .pair x y) (n .pair x y) (sub x y)))
+    (sum-falls (λ y. one (m .pair a y)) (λ y. one (n .pair a y)) 256 b hb (λ y. one-most (m .pair a y) (n .pair a y) (sub a y)) (omega arith))
 
 pub pair-count-none : pair-count nothing ≡ 0
 unfolding pair-count listener-count

@@ -1,0 +1,9 @@
+use borrow.Author.Needs.{needs}
+use mathlib.Core.Path.{_≡_}
+use Rattle.maps.proofs.Asked.{zero-stands-not}
+use Rattle.maps.proofs.Map.units.Needs as need
+
+pub loop-u-holds : need.loop-u-holds
+loop-u-holds g c =
+    let none = zero-stands-not (g .Self·Map .meaning (c .args .self .now)) (c .sound .ensures) in
+    search needs

@@ -1,0 +1,3 @@
+pub mod Faults
+pub mod Changes
+pub mod Copies

@@ -1,0 +1,14 @@
+-- The members of a set of unit numbers.
+use mathlib.Core.Bool.{Bool}
+use mathlib.Core.List.{[]}
+use Prim.Native.Nat.{ℕ}
+use Rattle.units.specs.Bit.{member}
+use Rattle.units.specs.declared.UnitSet.{UnitSet}
+
+-- k is in the set; no number past 255 is.
+abbrev pub has : UnitSet → ℕ → Bool
+has s k = member (s .words) k
+
+-- What a read past the end of a list of sets gives: a set with no members.
+abbrev pub blank : UnitSet
+blank = record { words = [] }

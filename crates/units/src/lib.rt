@@ -1,0 +1,160 @@
+// A set of unit numbers, one bit for each number from 0 to 255. This is the one crate that knows bits: what is built on it
+// speaks of membership alone.
+ghost use mathlib.Core.Path.{_≡_};
+ghost use mathlib.Core.Bool.{Bool, true, false, not, xor, _&&_, _||_};
+ghost use Prim.Native.Nat.{ℕ, _+_, _<_, _≤_};
+ghost use lib.Count.{ones};
+ghost use lib.Dec.{eqb};
+ghost use Rattle.std.specs.Options.{Cases as BySome};
+ghost use Rattle.theory.specs.Counts.{count};
+ghost use Rattle.units.specs.Bit.{bit};
+ghost use Rattle.units.specs.Has.{has};
+ghost use Rattle.units.specs.Sets.{Inhabited, Least};
+
+#[derive(Clone, Copy)]
+pub struct UnitSet {
+    words: [u64; 4],
+}
+
+impl UnitSet {
+    pub fn empty() -> UnitSet
+        ensures { λ r. ⌜ ((k : ℕ) → has r k ≡ false) ⌝ }
+    {
+        UnitSet { words: [0; 4] }
+    }
+
+    pub fn contains(&self, u: u8) -> bool
+        ensures { λ r. ⌜ r ≡ has (now (self .entry)) u ⌝ }
+    {
+        let word = self.words[(u / 64) as usize];
+        (word >> (u % 64)) & 1 == 1
+    }
+
+    pub fn insert(&mut self, u: u8)
+        ensures { λ _. ⌜ ((k : ℕ) → has (now (self .exit)) k ≡ (eqb k u || has (now (self .entry)) k)) ⌝ }
+    {
+        self.words[(u / 64) as usize] |= 1 << (u % 64);
+    }
+
+    pub fn remove(&mut self, u: u8)
+        ensures { λ _. ⌜ ((k : ℕ) → has (now (self .exit)) k ≡ (not (eqb k u) && has (now (self .entry)) k)) ⌝ }
+    {
+        self.words[(u / 64) as usize] &= !(1 << (u % 64));
+    }
+
+    // The members of either set.
+    pub fn union(&self, other: &UnitSet) -> UnitSet
+        ensures { λ r. ⌜ ((k : ℕ) → has r k ≡ (has (now (self .entry)) k || has (now (other .entry)) k)) ⌝ }
+    {
+        let a = &self.words;
+        let b = &other.words;
+        UnitSet {
+            words: [a[0] | b[0], a[1] | b[1], a[2] | b[2], a[3] | b[3]],
+        }
+    }
+
+    // The members of both sets.
+    pub fn intersection(&self, other: &UnitSet) -> UnitSet
+        ensures { λ r. ⌜ ((k : ℕ) → has r k ≡ (has (now (self .entry)) k && has (now (other .entry)) k)) ⌝ }
+    {
+        let a = &self.words;
+        let b = &other.words;
+        UnitSet {
+            words: [a[0] & b[0], a[1] & b[1], a[2] & b[2], a[3] & b[3]],
+        }
+    }
+
+    // The members that the other set lacks.
+    pub fn minus(&self, other: &UnitSet) -> UnitSet
+        ensures { λ r. ⌜ ((k : ℕ) → has r k ≡ (has (now (self .entry)) k && not (has (now (other .entry)) k))) ⌝ }
+    {
+        let a = &self.words;
+        let b = &other.words;
+        UnitSet {
+            words: [a[0] & !b[0], a[1] & !b[1], a[2] & !b[2], a[3] & !b[3]],
+        }
+    }
+
+    // The members of one of the sets and not of the other.
+    pub fn symmetric_difference(&self, other: &UnitSet) -> UnitSet
+        ensures { λ r. ⌜ ((k : ℕ) → has r k ≡ xor (has (now (self .entry)) k) (has (now (other .entry)) k)) ⌝ }
+    {
+        let a = &self.words;
+        let b = &other.words;
+        UnitSet {
+            words: [a[0] ^ b[0], a[1] ^ b[1], a[2] ^ b[2], a[3] ^ b[3]],
+        }
+    }
+
+    pub fn is_empty(&self) -> bool
+        ensures { λ r. ⌜ Inhabited (not r) (has (now (self .entry))) ⌝ }
+    {
+        let a = &self.words;
+        a[0] | a[1] | a[2] | a[3] == 0
+    }
+
+    // Whether the two sets have a member in common.
+    pub fn intersects(&self, other: &UnitSet) -> bool
+        ensures { λ r. ⌜ Inhabited r (λ k. has (now (self .entry)) k && has (now (other .entry)) k) ⌝ }
+    {
+        !self.intersection(other).is_empty()
+    }
+
+    // The least member that is greater than c.
+    pub fn least_above(&self, c: u8) -> Option<u8>
+        ensures { λ r. ⌜ Least (has (now (self .entry))) (c + 1) r ⌝ }
+    {
+        if c == 255 {
+            return None;
+        }
+        let from = c + 1;
+        let start = from / 64;
+        if let Some(b) = first_set(self.words[start as usize], from % 64) {
+            return Some(start * 64 + b);
+        }
+        for w in start + 1..4 {
+            if let Some(b) = first_set(self.words[w as usize], 0) {
+                return Some(w * 64 + b);
+            }
+        }
+        None
+    }
+
+    // How many members there are.
+    pub fn len(&self) -> u16
+        ensures number { λ r. ⌜ r ≡ count (has (now (self .entry))) ⌝ }
+        ensures most { λ r. ⌜ r ≤ 256 ⌝ }
+    {
+        let a = &self.words;
+        set_bits(a[0]) + set_bits(a[1]) + set_bits(a[2]) + set_bits(a[3])
+    }
+
+    // How many numbers are in one of the sets and not in the other.
+    pub fn difference_len(&self, other: &UnitSet) -> u16
+        ensures number { λ r. ⌜ r ≡ count (λ k. xor (has (now (self .entry)) k) (has (now (other .entry)) k)) ⌝ }
+        ensures most { λ r. ⌜ r ≤ 256 ⌝ }
+    {
+        self.symmetric_difference(other).len()
+    }
+}
+
+// How many bits of the word are set.
+fn set_bits(word: u64) -> u16
+    ensures value { λ r. ⌜ r ≡ ones word ⌝ }
+    ensures small { λ r. ⌜ r ≤ 64 ⌝ }
+{
+    word.count_ones() as u16
+}
+
+// The least place of a set bit of the word, from a place on.
+fn first_set(word: u64, from: u8) -> Option<u8>
+    requires { ⌜ from < 64 ⌝ }
+    ensures least { λ r. ⌜ Least (bit word) from r ⌝ }
+    ensures small { λ r. ⌜ BySome r (Unit {0}) (λ b. b < 64) ⌝ }
+{
+    let rest = word >> from;
+    if rest == 0 {
+        return None;
+    }
+    Some(from + rest.trailing_zeros() as u8)
+}
