@@ -6,17 +6,18 @@ use mathlib.Core.List.{List}
 use Prim.Native.Nat.{ℕ, zero, suc, _+_, _≤_, _<_}
 use native.Mathlib.Omega.{arith}
 use lib.Dec.{T, eqb, ltb}
-use lib.ListN.{length, getD, set, replicate, length-set}
+use lib.ListN.{length, getD, set, length-set}
 use lib.Seq.{getD-set-same, getD-set-other}
 use Rattle.std.proofs.shelf.Tests.{cases-eq, cases-bool, both-ways, eq-eqb, ne-eqb, lt-ltb, and-left, and-right, not-from-true}
 use Rattle.std.proofs.shelf.Ways.{tells}
 use Rattle.units.specs.declared.UnitSet.{UnitSet}
 use Rattle.units.specs.Has.{has, blank}
-use Rattle.units.proofs.Members.{member-small, member-blank}
+use Rattle.units.proofs.Members.{member-small}
 use Rattle.theory.proofs.Tests.{passes, passed}
 use Rattle.theory.specs.Maps.{Map, Sound, without-unit}
 use Rattle.grid.specs.Meaning.{matrix-map}
-use Rattle.grid.specs.Rows.{in-row, No-zero, From-stands, To-stands, Apart, Turned-rows}
+use Rattle.units.specs.Has.{in-row}
+use Rattle.grid.specs.Rows.{No-zero, From-stands, To-stands, Apart, Turned-rows}
 use Rattle.grid.specs.declared.matrix.Matrix.{Matrix}
 
 -- a matrix stands for a sound map
@@ -52,11 +53,6 @@ kept m units listeners sources s ku kp ks = (
 
     pair : (x y : ℕ) → in-row listeners x y ≡ true → T (m .pair x y)
     pair x y t = passes _ (sym (kp x y) ∙ t)
-
-pub all-empty : (s : UnitSet) → ((k : ℕ) → has s k ≡ false) → (n : ℕ) → (x y : ℕ) → in-row (replicate n s) x y ≡ false
-all-empty s e zero x y = member-blank y
-all-empty s e (suc n) zero y = e y
-all-empty s e (suc n) (suc x) y = all-empty s e n x y
 
 -- the set of u emptied, and u taken out of each set that has it
 pub taken-out : (rows rows′ : List UnitSet) (among none : UnitSet) (u : ℕ) → u < length rows → ((k : ℕ) → has none k ≡ false) → ((p : ℕ) → has among p ≡ in-row rows p u)

@@ -3,14 +3,9 @@ use mathlib.Core.Path.{_≡_}
 use mathlib.Core.Bool.{Bool, true, false}
 use mathlib.Core.List.{List}
 use Prim.Native.Nat.{ℕ}
-use lib.ListN.{getD}
 use Rattle.units.specs.declared.UnitSet.{UnitSet}
-use Rattle.units.specs.Has.{has, blank}
+use Rattle.units.specs.Has.{has, in-row}
 use Rattle.theory.specs.Maps.{Map}
-
--- y is in the set of x
-abbrev pub in-row : List UnitSet → ℕ → ℕ → Bool
-in-row rows x y = has (getD rows x blank) y
 
 -- x is paired to y where y is in the set of x's listeners
 abbrev pub map-of : UnitSet → List UnitSet → Map

@@ -10,13 +10,13 @@ use maps::Map;
 use maps::Store;
 use maps::StoreFault;
 use units::UnitSet;
+use units::empty_rows;
 
 mod matrix;
 mod rows;
 mod table;
 
 pub use matrix::Matrix;
-use rows::empty_rows;
 use rows::insert_at;
 use rows::listener_rows;
 use rows::remove_among;

@@ -4,16 +4,10 @@ ghost use mathlib.Core.Bool.{false, not, _&&_, _||_};
 ghost use Prim.Native.Nat.{ℕ};
 ghost use lib.Dec.{eqb};
 ghost use Rattle.units.specs.Has.{has};
-ghost use Rattle.grid.specs.Rows.{in-row};
+ghost use Rattle.units.specs.Has.{in-row};
 use maps::Map;
 use units::UnitSet;
-
-// No member in any set.
-pub(crate) fn empty_rows() -> [UnitSet; 256]
-    ensures { λ r. ⌜ ((x y : ℕ) → in-row r x y ≡ false) ⌝ }
-{
-    [UnitSet::empty(); 256]
-}
+use units::empty_rows;
 
 // The set of the listeners of each number.
 pub(crate) fn listener_rows<M: Map>(m: &M) -> [UnitSet; 256]

@@ -8,7 +8,7 @@ ghost use lib.Dec.{eqb};
 ghost use Rattle.std.specs.Options.{Cases as BySome};
 ghost use Rattle.theory.specs.Counts.{count};
 ghost use Rattle.units.specs.Bit.{bit};
-ghost use Rattle.units.specs.Has.{has};
+ghost use Rattle.units.specs.Has.{has, in-row};
 ghost use Rattle.units.specs.Sets.{Inhabited, Least};
 
 #[derive(Clone, Copy)]
@@ -157,4 +157,11 @@ fn first_set(word: u64, from: u8) -> Option<u8>
         return None;
     }
     Some(from + rest.trailing_zeros() as u8)
+}
+
+// A set for each number from 0 to 255, none with a member.
+pub fn empty_rows() -> [UnitSet; 256]
+    ensures { λ r. ⌜ ((x y : ℕ) → in-row r x y ≡ false) ⌝ }
+{
+    [UnitSet::empty(); 256]
 }

@@ -3,7 +3,7 @@ use mathlib.Core.Bool.{not, _&&_}
 use Prim.Native.Nat.{ℕ, _-_}
 use lib.Dec.{eqb, leb}
 use Rattle.units.specs.Has.{has}
-use Rattle.grid.specs.Rows.{in-row}
+use Rattle.units.specs.Has.{in-row}
 use Rattle.grid.proofs.rows.remove_among.Given as given
 
 -- done for the members up to c

@@ -3,7 +3,7 @@ use mathlib.Core.Bool.{_&&_}
 use Prim.Native.Nat.{ℕ}
 use lib.Dec.{ltb}
 use lib.ListN.{length}
-use Rattle.grid.specs.Rows.{in-row}
+use Rattle.units.specs.Has.{in-row}
 use Rattle.grid.proofs.rows.source_rows.Given as given
 
 abbrev pub Inv-loop-b : given.InvT-loop-b
