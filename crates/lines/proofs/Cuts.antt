@@ -20,11 +20,11 @@ module _ {A : Type 0} (run : List ℕ → ℕ) (make : List ℕ → A) (xs : Lis
   text-is : text ≡ drop 1 xs
   text-is = take-rest xs 1
 
-  pub no-field : run text ≡ 0 → Err (place + 1) ≡ field run make xs place
-  no-field none =
+  pub no-field : (q : ℕ) → q ≡ place + 1 → run text ≡ 0 → Err q ≡ field run make xs place
+  no-field q at none =
       let s = eq-eqb (getD xs 0 0) 32 space in
       let z = eq-eqb (run (drop 1 xs)) 0 (subst (λ (ys : List ℕ). run ys ≡ 0) text-is none) in
-      rw (s, z)
+      rw (s, z, at)
 
   pub a-field : (n : ℕ) (x : A) → n ≡ run text → (n ≡ 0 → ⊥) → x ≡ make (take n text) →
       Ok (x, take (length text - n) (drop n text), place + 1 + n) ≡ field run make xs place

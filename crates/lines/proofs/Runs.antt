@@ -2,12 +2,13 @@
 use mathlib.Core.Path.{_≡_, refl, sym, ap, _∙_}
 use mathlib.Core.Bool.{Bool, true, false, cond, _&&_}
 use mathlib.Core.List.{List, [], _∷_, _++_}
+use mathlib.Core.Logic.{_⊎_, inl, inr}
 use Prim.Native.Nat.{ℕ, zero, suc, _+_, _-_, _≤_, _<_}
 use native.Mathlib.Omega.{arith}
-use lib.Dec.{leb, eqb}
+use lib.Dec.{leb, ltb, eqb}
 use lib.ListN.{length, getD, take, drop}
 use Rattle.std.proofs.shelf.Lists.{at-drop-more, at-drop-all, take-more}
-use Rattle.std.proofs.shelf.Tests.{and-parts, leb-true, eqb-true, eqb-false, false≢true}
+use Rattle.std.proofs.shelf.Tests.{and-parts, and-from, both-ways, cases-lt, leb-true, ltb-true, lt-ltb, eqb-true, false≢true}
 use Rattle.std.specs.declared.option.Option.{Option}
 use Rattle.std.specs.declared.option.Option.the-variants.{Some, None}
 use Rattle.grammar.specs.Grammar.{name-byte}
@@ -19,18 +20,27 @@ name-more xs n h k =
     let e : 16 - n ≡ suc (16 - (n + 1)) = omega arith in
     at-drop-more (name-run (16 - n)) xs n 0 h ∙ ap (λ (m : ℕ). name-run m (getD xs n 0 ∷ drop (n + 1) xs)) e
 
-pub name-stops : (xs : List ℕ) (n i : ℕ) → n ≡ i → i < length xs → n < 16 → n + name-run (16 - n) (drop n xs) ≡ name-run 16 xs → name-byte (getD xs i 0) ≡ false → n ≡ name-run 16 xs
-name-stops xs n i e h k inv off =
-    let at : name-byte (getD xs n 0) ≡ false = ap (λ (j : ℕ). name-byte (getD xs j 0)) e ∙ off in
-    let step = name-more xs n (omega arith) k ∙ ap (λ (b : Bool). cond b (suc (name-run (16 - (n + 1)) (drop (n + 1) xs))) 0) at in
-    omega (arith, step)
+-- the byte at the place goes on with a name of n bytes, or not
+module _ (xs : List ℕ) (n i : ℕ) (e : n ≡ i) (h : i < length xs) (short : n ≤ 16) (inv : n + name-run (16 - n) (drop n xs) ≡ name-run 16 xs) where
+  at : (b : Bool) → name-byte (getD xs i 0) ≡ b → n < 16 → name-run (16 - n) (drop n xs) ≡ cond b (suc (name-run (16 - (n + 1)) (drop (n + 1) xs))) 0
+  at b is less = name-more xs n (omega arith) less ∙ ap (λ (t : Bool). cond t (suc (name-run (16 - (n + 1)) (drop (n + 1) xs))) 0) (ap (λ (j : ℕ). name-byte (getD xs j 0)) e ∙ is)
 
-pub name-goes : (xs : List ℕ) (n i : ℕ) → n ≡ i → i < length xs → n < 16 → n + name-run (16 - n) (drop n xs) ≡ name-run 16 xs → name-byte (getD xs i 0) ≡ true →
-    n + 1 + name-run (16 - (n + 1)) (drop (n + 1) xs) ≡ name-run 16 xs
-name-goes xs n i e h k inv on =
-    let at : name-byte (getD xs n 0) ≡ true = ap (λ (j : ℕ). name-byte (getD xs j 0)) e ∙ on in
-    let step = name-more xs n (omega arith) k ∙ ap (λ (b : Bool). cond b (suc (name-run (16 - (n + 1)) (drop (n + 1) xs))) 0) at in
-    omega (arith, step)
+  pub name-stops : (ltb n 16 && name-byte (getD xs i 0)) ≡ false → n ≡ name-run 16 xs
+  name-stops off = go (cases-lt n 16) (name-byte (getD xs i 0)) refl
+    where
+      go : (n < 16) ⊎ (16 ≤ n) → (b : Bool) → name-byte (getD xs i 0) ≡ b → n ≡ name-run 16 xs
+      go (inl less) true is = absurd (both-ways (ltb n 16 && name-byte (getD xs i 0)) off (and-from (ltb n 16) (name-byte (getD xs i 0)) (lt-ltb n 16 less) is))
+      go (inl less) false is = let step = at false is less in omega (arith, step)
+      go (inr full) b is =
+          let none : name-run (16 - n) (drop n xs) ≡ 0 = ap (λ (k : ℕ). name-run k (drop n xs)) (let z : 16 - n ≡ 0 = omega arith in z) in
+          omega (arith, none)
+
+  pub name-goes : (ltb n 16 && name-byte (getD xs i 0)) ≡ true → (n + 1 ≤ 16) × (n + 1 + name-run (16 - (n + 1)) (drop (n + 1) xs) ≡ name-run 16 xs)
+  name-goes on =
+      let parts = and-parts (ltb n 16) (name-byte (getD xs i 0)) on in
+      let less = ltb-true n 16 (parts .0) in
+      let step = at true (parts .1) less in
+      (omega arith, omega (arith, step))
 
 pub name-ends : (xs : List ℕ) (n : ℕ) → length xs ≤ n → n + name-run (16 - n) (drop n xs) ≡ name-run 16 xs → n ≡ name-run 16 xs
 name-ends xs n h inv = let e = at-drop-all (name-run (16 - n)) xs n h ∙ none (16 - n) in omega (arith, e)

@@ -7,7 +7,7 @@ ghost use mathlib.Core.List.{List, _++_};
 ghost use mathlib.Core.Path.{_≡_};
 ghost use Prim.Native.Nat.{ℕ, _+_, _≤_, _<_};
 ghost use lib.Chars.{codes};
-ghost use lib.Dec.{leb, eqb};
+ghost use lib.Dec.{leb, ltb, eqb};
 ghost use lib.ListN.{length, getD, take};
 ghost use Rattle.std.specs.Options.{Cases as BySome};
 ghost use Rattle.std.specs.Results.{Cases};
@@ -73,6 +73,16 @@ struct Rest<'a> {
 }
 
 impl<'a> Rest<'a> {
+    // The fault of a byte so many places ahead.
+    fn fault(&self, ahead: u8) -> Malformed
+        requires { ⌜ now self .place ≤ 60 ⌝ ∗ ⌜ ahead ≤ 1 ⌝ }
+        ensures { λ r. ⌜ r .place ≡ now (self .entry) .place + ahead ⌝ }
+    {
+        Malformed {
+            place: self.place + ahead,
+        }
+    }
+
     // A space, and the longest name after it.
     fn name(self) -> Result<(&'a [u8], Rest<'a>), Malformed>
         requires { ⌜ self .place ≤ 60 ⌝ }
@@ -80,13 +90,11 @@ impl<'a> Rest<'a> {
         ensures near { λ r. ⌜ Cases r (λ x. x .1 .place ≤ self .entry .place + 17) (λ e. Unit {0}) ⌝ }
     {
         let [b' ', text @ ..] = self.bytes else {
-            return Err(Malformed { place: self.place });
+            return Err(self.fault(0));
         };
         let n = name_len(text);
         if n == 0 {
-            return Err(Malformed {
-                place: self.place + 1,
-            });
+            return Err(self.fault(1));
         }
         let rest = Rest {
             bytes: &text[n..],
@@ -102,12 +110,10 @@ impl<'a> Rest<'a> {
         ensures near { λ r. ⌜ Cases r (λ x. x .1 .place ≤ self .entry .place + 4) (λ e. Unit {0}) ⌝ }
     {
         let [b' ', text @ ..] = self.bytes else {
-            return Err(Malformed { place: self.place });
+            return Err(self.fault(0));
         };
         let Some((value, n)) = leading_number(text) else {
-            return Err(Malformed {
-                place: self.place + 1,
-            });
+            return Err(self.fault(1));
         };
         let rest = Rest {
             bytes: &text[n..],
@@ -118,11 +124,12 @@ impl<'a> Rest<'a> {
 
     // Nothing more may follow.
     fn end(self) -> Result<(), Malformed>
+        requires { ⌜ self .place ≤ 60 ⌝ }
         ensures { λ r. ⌜ Cases r (λ _. eqb (length (now (self .entry .bytes))) 0 ≡ true) (λ e. (eqb (length (now (self .entry .bytes))) 0 ≡ false) × (e .place ≡ self .entry .place)) ⌝ }
     {
-        let [] = self.bytes else {
-            return Err(Malformed { place: self.place });
-        };
+        if self.bytes.len() > 0 {
+            return Err(self.fault(0));
+        }
         Ok(())
     }
 }
@@ -133,6 +140,13 @@ fn is_name_byte(b: u8) -> bool
     matches!(b, b'a'..=b'z' | b'0'..=b'9' | b'-')
 }
 
+// Whether a name of n bytes goes on with the byte.
+fn goes_on(n: usize, b: u8) -> bool
+    ensures { λ r. ⌜ r ≡ (ltb n 16 && name-byte b) ⌝ }
+{
+    n < 16 && is_name_byte(b)
+}
+
 // How many bytes at the start of the text are a name's, at most 16.
 fn name_len(text: &[u8]) -> usize
     ensures is { λ r. ⌜ r ≡ name-run 16 (now (text .entry)) ⌝ }
@@ -141,10 +155,7 @@ fn name_len(text: &[u8]) -> usize
 {
     let mut n = 0;
     for x in text {
-        if n == 16 {
-            return n;
-        }
-        if !is_name_byte(*x) {
+        if !goes_on(n, *x) {
             return n;
         }
         n += 1;
@@ -242,6 +253,12 @@ fn two_names(rest: Rest<'_>) -> Result<(&[u8], &[u8]), Malformed>
     Ok((source, listener))
 }
 
+fn is_feed(b: u8) -> bool
+    ensures { λ r. ⌜ r ≡ eqb b 10 ⌝ }
+{
+    b == b'\n'
+}
+
 // The first line of a text, without its line feed, and what stands after it.
 pub fn split_line(text: &[u8]) -> (&[u8], &[u8])
     ensures line { λ r. ⌜ now (r .0) ≡ first-line (now (text .entry)) ⌝ }
@@ -249,7 +266,7 @@ pub fn split_line(text: &[u8]) -> (&[u8], &[u8])
     ensures shorter { λ r. ⌜ (0 < length (now (text .entry)) → length (now (r .1)) < length (now (text .entry))) ⌝ }
 {
     for i in 0..text.len() {
-        if text[i] == b'\n' {
+        if is_feed(text[i]) {
             return (&text[0..i], &text[i + 1..]);
         }
     }

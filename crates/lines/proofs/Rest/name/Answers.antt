@@ -10,7 +10,7 @@ use Rattle.lines.proofs.Rest.name.Needs as need
 
 pub returns-then-n-eq0 : need.returns-then-n-eq0
 returns-then-n-eq0 c = record {
-  is = no-field (name-run 16) (λ name. name) (c .args .self .bytes .now) (c .args .self .place) (search needs) (sym (c .name-len-n .ensures .is) ∙ c .if-n-eq0 .taken);
+  is = no-field (name-run 16) (λ name. name) (c .args .self .bytes .now) (c .args .self .place) (search needs) (c .fault-then-n-eq0 .result .place) (c .fault-then-n-eq0 .ensures) (sym (c .name-len-n .ensures .is) ∙ c .if-n-eq0 .taken);
   near = tt;
 }
 

@@ -7,7 +7,7 @@ use Rattle.lines.proofs.Rest.number.Needs as need
 
 pub returns-in-rest-leading-number : need.returns-in-rest-leading-number
 returns-in-rest-leading-number c = record {
-  is = no-field number-run (value-after 0) (c .args .self .bytes .now) (c .args .self .place) (search needs) (c .in-rest-leading-number .ensures tt .is);
+  is = no-field number-run (value-after 0) (c .args .self .bytes .now) (c .args .self .place) (search needs) (c .fault-in-rest-leading-number .result .place) (c .fault-in-rest-leading-number .ensures) (c .in-rest-leading-number .ensures tt .is);
   near = tt;
 }
 
