@@ -9,6 +9,8 @@ ghost use Rattle.labels.specs.Holding.{holds};
 use units::UnitSet;
 use units::empty_rows;
 
+mod hearing;
+
 // A set of units for each unit.
 #[derive(Clone, Copy)]
 pub struct Holders {
