@@ -11,6 +11,8 @@ use units::empty_rows;
 
 mod hearing;
 
+pub use hearing::cover;
+
 // A set of units for each unit.
 #[derive(Clone, Copy)]
 pub struct Holders {

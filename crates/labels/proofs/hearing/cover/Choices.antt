@@ -6,7 +6,7 @@ use lib.ListN.{drop}
 use Rattle.units.specs.Has.{has}
 use Rattle.labels.specs.Holding.{holds}
 use Rattle.labels.specs.Asked.{covered}
-use Rattle.labels.proofs.cover.Given as given
+use Rattle.labels.proofs.hearing.cover.Given as given
 
 abbrev pub Inv-loop-w : given.InvT-loop-w
 Inv-loop-w l = (y : ℕ) → (has (l .all) y || covered (holds (l .ins)) (holds (l .outs)) (drop (l .w-index) (l .units)) (l .u) y) ≡ covered (holds (l .ins)) (holds (l .outs)) (l .units) (l .u) y
