@@ -10,8 +10,10 @@ use units::UnitSet;
 use units::empty_rows;
 
 mod hearing;
+mod lists;
 
 pub use hearing::cover;
+pub use lists::ShortBuffer;
 
 // A set of units for each unit.
 #[derive(Clone, Copy)]
