@@ -1,0 +1,4 @@
+pub mod Picked
+pub mod Compared
+pub mod Reached
+pub mod Written

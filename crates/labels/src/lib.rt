@@ -9,6 +9,12 @@ ghost use Rattle.labels.specs.Holding.{holds};
 use units::UnitSet;
 use units::empty_rows;
 
+mod hearing;
+mod lists;
+
+pub use hearing::cover;
+pub use lists::ShortBuffer;
+
 // A set of units for each unit.
 #[derive(Clone, Copy)]
 pub struct Holders {

@@ -1,0 +1,130 @@
+-- What the tables lead to is covered unit by unit; with a unit and its row it is all that hears the unit.
+use mathlib.Core.Path.{_≡_, refl, sym, ap, subst, _∙_}
+use mathlib.Core.Bool.{Bool, true, false, _&&_, _||_}
+use mathlib.Core.List.{List, [], _∷_}
+use mathlib.Core.Logic.{_↔_, _⊎_, inl, inr, ⊎-elim, ⊎-map}
+use Prim.Native.Nat.{ℕ, _+_, _≤_, _<_}
+use lib.Dec.{T, eqb, eqb→eq, eqb-refl}
+use lib.ListN.{length, getD, drop}
+use Rattle.std.proofs.shelf.Lists.{at-drop-more, at-drop-all}
+use Rattle.std.proofs.shelf.Tests.{false≢true}
+use Rattle.theory.specs.Maps.{Map, Sound, turned}
+use Rattle.theory.specs.Chains.{On, Heard}
+use Rattle.theory.specs.Hearing.{isHeard}
+use Rattle.theory.specs.Ranks.{rankIn, Orders}
+use Rattle.theory.specs.Rows.{Rows, AllRight, Through, turnedRows}
+use Rattle.theory.proofs.Tests.{and-fst, and-snd, and-both, or-either, or-fst, or-snd, same-tests}
+use Rattle.theory.proofs.Maps.{turned-sound, turned-orders}
+use Rattle.theory.proofs.Chains.{heard-turned}
+use Rattle.theory.proofs.Warshall.{hearing-decided}
+use Rattle.theory.proofs.Tables.{says-out, turned-right, reached-by-tables}
+use Rattle.labels.specs.declared.Labels.{Labels}
+use Rattle.labels.specs.Holding.{holds, rows-of}
+use Rattle.labels.specs.Asked.{Kept, covered}
+
+-- o: the unit covers something for u; e, i: it is y or has y in its row; a, r: y was covered before, y is covered by the rest
+taken : (o e i a r : Bool) → o ≡ true → ((e || (a || i)) || r) ≡ (a || ((o && (e || i)) || r))
+taken true true i true r h = refl
+taken true true i false r h = refl
+taken true false i true r h = refl
+taken true false i false r h = refl
+taken false e i a r h = absurd (false≢true h)
+
+passed-over : (o x a r : Bool) → o ≡ false → (a || r) ≡ (a || ((o && x) || r))
+passed-over true x a r h = absurd (false≢true (sym h))
+passed-over false x a r h = refl
+
+none-more : (a : Bool) → a ≡ (a || false)
+none-more true = refl
+none-more false = refl
+
+module _ (ins outs : ℕ → ℕ → Bool) (units : List ℕ) (i u y : ℕ) (all whole : Bool) (inv : (all || covered ins outs (drop i units) u y) ≡ whole) where
+  step : i < length units → (all || covered ins outs (getD units i 0 ∷ drop (i + 1) units) u y) ≡ whole
+  step h = ap (λ b. all || b) (sym (at-drop-more (λ ws. covered ins outs ws u y) units i 0 h)) ∙ inv
+
+  pub cover-here : (new : Bool) → new ≡ (eqb y (getD units i 0) || (all || ins (getD units i 0) y)) → i < length units → outs (getD units i 0) u ≡ true
+      → (new || covered ins outs (drop (i + 1) units) u y) ≡ whole
+  cover-here new e h t =
+      ap (λ b. b || covered ins outs (drop (i + 1) units) u y) e
+      ∙ taken (outs (getD units i 0) u) (eqb y (getD units i 0)) (ins (getD units i 0) y) all (covered ins outs (drop (i + 1) units) u y) t
+      ∙ step h
+
+  pub cover-past : (new : Bool) → new ≡ all → i < length units → outs (getD units i 0) u ≡ false → (new || covered ins outs (drop (i + 1) units) u y) ≡ whole
+  cover-past new e h t =
+      ap (λ b. b || covered ins outs (drop (i + 1) units) u y) e
+      ∙ passed-over (outs (getD units i 0) u) (eqb y (getD units i 0) || ins (getD units i 0) y) all (covered ins outs (drop (i + 1) units) u y) t
+      ∙ step h
+
+  pub cover-end : length units ≤ i → all ≡ whole
+  cover-end h = none-more all ∙ ap (λ b. all || b) (sym (at-drop-all (λ ws. covered ins outs ws u y) units i h)) ∙ inv
+
+module _ (ins outs : ℕ → ℕ → Bool) (u y : ℕ) where
+  -- x leads from u to y
+  abbrev pub Leads : ℕ → Type 0
+  Leads x = T (outs x u) × (T (ins x y) ⊎ (x ≡ y))
+
+  one : (x : ℕ) → T (outs x u && (eqb y x || ins x y)) ↔ Leads x
+  one x = (
+    λ t. (
+      and-fst (outs x u) (eqb y x || ins x y) t,
+      ⊎-elim (λ e. inr (sym (eqb→eq y x e))) inl (or-either (eqb y x) (ins x y) (and-snd (outs x u) (eqb y x || ins x y) t)),
+    ),
+    λ (t, i). and-both (outs x u) (eqb y x || ins x y) t
+        (⊎-elim (or-snd (eqb y x) (ins x y)) (λ e. or-fst (eqb y x) (ins x y) (subst (λ z. T (eqb y z)) (sym e) (eqb-refl y))) i),
+  )
+
+  pub through : (order : List ℕ) → T (covered ins outs order u y) ↔ ((w : ℕ) × On w order × Leads w)
+  through [] = (λ t. absurd t, λ (w, o, l). absurd o)
+  through (x ∷ xs) = go (through xs)
+    where
+      go : T (covered ins outs xs u y) ↔ ((w : ℕ) × On w xs × Leads w) → T (covered ins outs (x ∷ xs) u y) ↔ ((w : ℕ) × On w (x ∷ xs) × Leads w)
+      go ih = (
+        λ t. ⊎-elim (λ k. (x, inl refl, one x .0 k)) (λ k. let r = ih .0 k in (r .0, inr (r .1), r .2)) (or-either (outs x u && (eqb y x || ins x y)) (covered ins outs xs u y) t),
+        λ (w, o, l). ⊎-elim (λ e. or-fst (outs x u && (eqb y x || ins x y)) (covered ins outs xs u y) (one x .1 (subst Leads e l)))
+            (λ k. or-snd (outs x u && (eqb y x || ins x y)) (covered ins outs xs u y) (ih .1 (w, k, l))) o,
+      )
+
+any-of : (e c r : Bool) → T (e || (c || r)) ↔ (T e ⊎ (T r ⊎ T c))
+any-of e c r = (
+  λ t. ⊎-map (λ k. k) (λ k. ⊎-elim inr inl (or-either c r k)) (or-either e (c || r) t),
+  ⊎-elim (or-fst e (c || r)) (λ k. or-snd e (c || r) (⊎-elim (or-snd c r) (or-fst c r) k)),
+)
+
+-- the unit, its row and what is covered for it, by right tables
+by-tables : (m : Map) → Sound m → (order : List ℕ) → Orders m order → (rows : Rows) → AllRight m order rows → (u v : ℕ) → T (m .unit u)
+    → (eqb v u || (covered (rows .ins) (rows .outs) order u v || rows .ins u v)) ≡ isHeard m u v
+by-tables m sound order orders rows right u v unit =
+    let any = any-of (eqb v u) (covered (rows .ins) (rows .outs) order u v) (rows .ins u v) in
+    let reached = reached-by-tables m sound order orders rows right u v unit in
+    let decides = hearing-decided m sound u v in
+    same-tests _ (isHeard m u v) (λ t. decides .1 (reached .1 (⊎-map (eqb→eq v u) (⊎-map (λ k. k) down) (any .0 t))))
+    (λ t. any .1 (⊎-map (λ e. subst (λ z. T (eqb v z)) e (eqb-refl v)) (⊎-map (λ k. k) up) (reached .0 (decides .0 t))))
+  where
+    down : T (covered (rows .ins) (rows .outs) order u v) → Through order rows u v
+    down t =
+        let r = through (rows .ins) (rows .outs) u v order .0 t in
+        let label = says-out m sound (rankIn order) rows (r .0) (right (r .0) (r .1)) u .0 (r .2 .0) in
+        (r .0, r .1, label .higher, r .2 .0, r .2 .1)
+
+    up : Through order rows u v → T (covered (rows .ins) (rows .outs) order u v)
+    up (w, o, less, t, i) = through (rows .ins) (rows .outs) u v order .1 (w, o, (t, i))
+
+heard-back : (m : Map) → Sound m → (s t : ℕ) → isHeard (turned m) s t ≡ isHeard m t s
+heard-back m sound s t =
+    let own = hearing-decided m sound t s in
+    let other = hearing-decided (turned m) (turned-sound m sound) s t in
+    let turn = heard-turned m sound s t in
+    same-tests (isHeard (turned m) s t) (isHeard m t s) (λ k. own .1 (turn .0 (other .0 k))) (λ k. other .1 (turn .1 (own .0 k)))
+
+module _ (m : Map) (order : List ℕ) (l : Labels) (kept : Kept m order l) (u v : ℕ) (unit : T (m .unit u)) where
+  right : AllRight m order (rows-of l)
+  right w o = record { ins = kept .exact .ins w; outs = kept .exact .outs w }
+
+  pub all-hearers : (eqb v u || (covered (holds (l .ins)) (holds (l .outs)) order u v || holds (l .ins) u v)) ≡ isHeard m u v
+  all-hearers = by-tables m (kept .sound) order (kept .orders) (rows-of l) right u v unit
+
+  pub all-heard : (eqb v u || (covered (holds (l .outs)) (holds (l .ins)) order u v || holds (l .outs) u v)) ≡ isHeard m v u
+  all-heard =
+      by-tables (turned m) (turned-sound m (kept .sound)) order (turned-orders m order (kept .orders)) (turnedRows (rows-of l))
+      (λ w o. turned-right m (rankIn order) (rows-of l) w (right w o)) u v unit
+      ∙ heard-back m (kept .sound) u v
