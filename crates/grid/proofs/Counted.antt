@@ -1,9 +1,9 @@
 -- The number of pairings goes along with each change.
-use mathlib.Core.Path.{_≡_, refl, sym, ap, _∙_}
+use mathlib.Core.Path.{_≡_, refl, ap, _∙_}
 use mathlib.Core.Bool.{Bool, true, false}
-use Prim.Native.Nat.{ℕ, _+_, _-_, _≤_, _<_}
+use Prim.Native.Nat.{ℕ, _+_, _-_, _<_}
 use native.Mathlib.Omega.{arith}
-use Rattle.theory.specs.Maps.{Map, Sound, with-unit, without-unit, with-pair, without-pair}
+use Rattle.theory.specs.Maps.{Map, with-unit, without-unit, with-pair, without-pair}
 use Rattle.theory.specs.Counts.{count, pair-count}
 use Rattle.theory.proofs.Counting.{count-same, pair-count-same, pair-count-with, pair-count-without}
 use Rattle.maps.proofs.Sums.{pair-count-take}

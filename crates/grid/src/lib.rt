@@ -224,7 +224,7 @@ pub impl Store for Grid as GridStore {
         if self.matrix.paired(a, b) {
             return Err(StoreFault::AlreadyPaired);
         }
-        if self.count == ROOM {
+        if self.count >= ROOM {
             return Err(StoreFault::Full);
         }
         self.matrix.add_pair(a, b);

@@ -1,5 +1,5 @@
 -- A map on its way into a store: its units, and some of its pairings.
-use mathlib.Core.Bool.{Bool, false, _&&_}
+use mathlib.Core.Bool.{false, _&&_}
 use Prim.Native.Nat.{ℕ}
 use lib.Dec.{ltb}
 use Rattle.theory.specs.Maps.{Map}

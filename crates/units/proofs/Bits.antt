@@ -1,17 +1,16 @@
 -- The digits of `|`, `&`, `^`, `!` and `1 << k`, and the place that `trailing_zeros` finds.
-use mathlib.Core.Path.{_≡_, refl, sym, ap, ap₂, _∙_, subst}
-use mathlib.Core.Logic.{_⊎_, inl, inr}
-use mathlib.Core.Bool.{Bool, true, false, not, xor, _&&_, _||_}
-use mathlib.Core.List.{List}
+use mathlib.Core.Path.{_≡_, refl, sym, ap, _∙_}
+use mathlib.Core.Logic.{inl, inr}
+use mathlib.Core.Bool.{true, false, not, xor, _&&_, _||_}
 use Prim.Native.Nat.{ℕ, zero, suc, _+_, _-_, _*_, _/_, _%_, _^_, _≤_, _<_}
 use native.Mathlib.Nat.{mod-lt, zero-div, zero-lt-suc, div-one, pow-suc, mul-mod-left, mul-div-cancel}
 use lib.Count.{trailingZeros, under}
 use Rattle.std.proofs.shelf.Bits.{shr-shr, div-below, pow-pos}
 use Rattle.std.proofs.shelf.Tests.{eq-eqb, ne-eqb, cases-eq}
 use native.Mathlib.Omega.{arith}
-use lib.Dec.{eqb, ltb}
+use lib.Dec.{eqb}
 use lib.Bits.{bitAnd, bitOr, bitXor, or-shr, and-shr, xor-shr, or-mod, and-mod, xor-mod}
-use Rattle.units.specs.Bit.{bit, member}
+use Rattle.units.specs.Bit.{bit}
 
 -- what holds of each two digits
 digits : (P : ℕ → ℕ → Type 0) → P 0 0 → P 0 1 → P 1 0 → P 1 1 → (x y : ℕ) → x < 2 → y < 2 → P x y

@@ -1,16 +1,15 @@
 -- What a write to a row of words does to its members.
 use mathlib.Core.Path.{_≡_, refl, sym, ap, ap₂, _∙_, subst}
-use mathlib.Core.Logic.{_⊎_, _≢_, inl, inr}
+use mathlib.Core.Logic.{_≢_, inl, inr}
 use mathlib.Core.Bool.{Bool, true, false, not, xor, _&&_, _||_}
 use mathlib.Core.List.{List, [], _∷_}
 use Prim.Native.Nat.{ℕ, zero, suc, _+_, _-_, _*_, _/_, _%_, _^_, _≤_, _<_}
 use native.Mathlib.Omega.{arith}
-use native.Mathlib.Nat.{one-mul}
 use lib.Dec.{eqb, ltb, lit<}
 use lib.Bits.{bitAnd, bitOr, bitXor, and-mask, or-lt}
 use lib.ListN.{length, getD, set}
 use lib.Seq.{getD-set-same, getD-set-other}
-use Rattle.std.proofs.shelf.Tests.{both-ways, lt-ltb, le-ltb, cases-lt, ltb-true, eqb-true, ne-eqb, eq-eqb, cases-eq, cases-bool, and-left, and-parts, or-parts, or-cases}
+use Rattle.std.proofs.shelf.Tests.{both-ways, lt-ltb, le-ltb, cases-lt, ltb-true, eqb-true, ne-eqb, eq-eqb, cases-eq, cases-bool, and-left, or-parts, or-cases}
 use Rattle.std.proofs.shelf.Bits.{one-shl, pow-below}
 use Rattle.units.specs.Bit.{bit, member}
 use Rattle.units.proofs.Bits.{bit-or, bit-and, bit-xor, bit-pow, bit-not, bit-zero, bit-add, bit-past, same-eqb, at-trailing, below-trailing}

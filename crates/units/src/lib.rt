@@ -1,7 +1,7 @@
 // A set of unit numbers, one bit for each number from 0 to 255. This is the one crate that knows bits: what is built on it
 // speaks of membership alone.
 ghost use mathlib.Core.Path.{_≡_};
-ghost use mathlib.Core.Bool.{Bool, true, false, not, xor, _&&_, _||_};
+ghost use mathlib.Core.Bool.{false, not, xor, _&&_, _||_};
 ghost use Prim.Native.Nat.{ℕ, _+_, _<_, _≤_};
 ghost use lib.Count.{ones};
 ghost use lib.Dec.{eqb};

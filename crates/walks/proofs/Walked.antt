@@ -1,16 +1,15 @@
 -- A search on its way: what it has seen, and the level that it has come to.
-use mathlib.Core.Path.{_≡_, refl, sym, ap, subst, _∙_}
+use mathlib.Core.Path.{_≡_, refl, sym, subst, _∙_}
 use mathlib.Core.Logic.{_⊎_, inl, inr}
-use mathlib.Core.Bool.{Bool, true, false, not, _&&_, _||_}
+use mathlib.Core.Bool.{Bool, true, false, not, _||_}
 use mathlib.Core.List.{List, [], _∷_}
-use Prim.Native.Nat.{ℕ, suc, _+_, _≤_, _<_}
+use Prim.Native.Nat.{ℕ, _<_}
 use native.Mathlib.Omega.{arith}
-use lib.Dec.{T, eqb}
-use lib.ListN.{length}
-use Rattle.std.proofs.shelf.Tests.{cases-bool, cases-lt, eqb-true, eq-eqb, both-ways, or-cases, or-parts, or-left, or-right, or-from, not-from-true, not-from-false, not-true}
+use lib.Dec.{eqb}
+use Rattle.std.proofs.shelf.Tests.{cases-bool, eqb-true, eq-eqb, both-ways, or-cases, or-parts, or-left, or-right, or-from, not-from-true, not-from-false, not-true}
 use Rattle.theory.specs.Maps.{Map, Sound}
 use Rattle.theory.specs.Counts.{count}
-use Rattle.theory.specs.Chains.{Onward, Chain, Heard}
+use Rattle.theory.specs.Chains.{Onward, Heard}
 use Rattle.theory.specs.Hearing.{isHeard}
 use Rattle.theory.proofs.Tests.{passes, passed, same-tests}
 use Rattle.theory.proofs.Counting.{count-falls}

@@ -1,4 +1,4 @@
-use mathlib.Core.Path.{sym, _∙_}
+use mathlib.Core.Path.{sym}
 use Prim.Native.Nat.{_+_, _<_}
 use Rattle.units.specs.Has.{has}
 use Rattle.walks.proofs.Walked.{left}

@@ -11,5 +11,5 @@ ghost-self c =
     let g = c .args .self .now in
     let within : g .count ≤ 8000 = g .within in (
       join-counted (grid-map g) (matrix-map (c .add-pair .last .self)) (g .count) (g .counted) (c .args .a) (c .args .b) (omega arith) (omega arith) (c .add-pair .ensures) (sym (c .if-paired .ensures tt)),
-      (omega (arith, c .if-self-eq-ROOM .left), tt),
+      (omega arith, tt),
     )

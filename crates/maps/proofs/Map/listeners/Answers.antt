@@ -1,5 +1,4 @@
 use borrow.Author.Needs.{needs}
-use mathlib.Core.Path.{_≡_}
 use Rattle.maps.proofs.Asked.{zero-not-listening}
 use Rattle.maps.proofs.Map.listeners.Needs as need
 

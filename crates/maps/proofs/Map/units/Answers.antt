@@ -1,5 +1,4 @@
 use borrow.Author.Needs.{needs}
-use mathlib.Core.Path.{_≡_}
 use Rattle.maps.proofs.Asked.{zero-stands-not}
 use Rattle.maps.proofs.Map.units.Needs as need
 
