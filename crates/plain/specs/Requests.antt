@@ -55,7 +55,10 @@ too-many capacity pairings = (fault.Store Full, ltb capacity pairings)
 abbrev pub ring-between : Plain → List ℕ → List ℕ → Check
 ring-between p sources listeners = (fault.Ring, some (λ s. some (λ t. hears p s t) listeners) sources)
 
--- What enrolling a unit with its partners asks of them.
+-- What enrolling a unit asks of its number, and of its partners.
+abbrev pub new-unit : Plain → ℕ → List Check
+new-unit p unit = (fault.Zero, eqb unit 0) ∷ (fault.Standing, stands p unit) ∷ []
+
 abbrev pub partners : ℕ → Plain → List ℕ → List ℕ → List Check
 partners capacity p sources listeners =
     unknown p (sources ++ listeners) ∷ (fault.Doubled, doubled sources || doubled listeners) ∷ ring-between p sources listeners
@@ -64,21 +67,26 @@ partners capacity p sources listeners =
 abbrev pub short-list : Plain → List ℕ → ℕ → ℕ → List Check
 short-list p list unit room = unknown p (unit ∷ []) ∷ (fault.ShortBuffer, ltb room (length list)) ∷ []
 
+abbrev pub pair-checks : ℕ → Plain → ℕ → ℕ → List Check
+pair-checks capacity p source listener =
+    unknown p (source ∷ listener ∷ []) ∷ (fault.Ring, hears p source listener) ∷ (fault.AlreadyPaired, p .pair source listener)
+    ∷ too-many capacity (pair-count (map-of p) + 1) ∷ []
+
+abbrev pub unpair-checks : Plain → ℕ → ℕ → List Check
+unpair-checks p source listener = unknown p (source ∷ listener ∷ []) ∷ (fault.NotPaired, not (p .pair source listener)) ∷ []
+
 -- The causes of each request, in the order in which they are looked for.
 unfoldable pub checks : ℕ → Plain → Request → List Check
 checks capacity p Make = []
 checks capacity p (Load page) =
     (fault.UnlawfulPage, not (lawful-page page)) ∷ (fault.Ring, has-ring (page-book page)) ∷ too-many capacity (pair-count (map-of (page-book page))) ∷ []
-checks capacity p (Enrol unit rank sources listeners) =
-    (fault.Zero, eqb unit 0) ∷ (fault.Standing, stands p unit) ∷ no-rank (length (p .order) + 1) rank ∷ partners capacity p sources listeners
+checks capacity p (Enrol unit rank sources listeners) = new-unit p unit ++ (no-rank (length (p .order) + 1) rank ∷ partners capacity p sources listeners)
 checks capacity p (Drop unit) = unknown p (unit ∷ []) ∷ []
-checks capacity p (Pair source listener) =
-    unknown p (source ∷ listener ∷ []) ∷ (fault.Ring, hears p source listener) ∷ (fault.AlreadyPaired, p .pair source listener)
-    ∷ too-many capacity (pair-count (map-of p) + 1) ∷ []
-checks capacity p (Unpair source listener) = unknown p (source ∷ listener ∷ []) ∷ (fault.NotPaired, not (p .pair source listener)) ∷ []
+checks capacity p (Pair source listener) = pair-checks capacity p source listener
+checks capacity p (Unpair source listener) = unpair-checks p source listener
 checks capacity p (Rank unit rank) = unknown p (unit ∷ []) ∷ no-rank (length (p .order)) rank ∷ []
 checks capacity p (Hear source listener) = unknown p (source ∷ listener ∷ []) ∷ []
-checks capacity p (BestPlace unit sources listeners) = (fault.Zero, eqb unit 0) ∷ (fault.Standing, stands p unit) ∷ partners capacity p sources listeners
+checks capacity p (BestPlace unit sources listeners) = new-unit p unit ++ partners capacity p sources listeners
 checks capacity p (InLabels unit room) = short-list p (inLabels (map-of p) (p .order) unit) unit room
 checks capacity p (OutLabels unit room) = short-list p (outLabels (map-of p) (p .order) unit) unit room
 checks capacity p (InHolders unit room) = short-list p (inHolders (map-of p) (p .order) unit) unit room
