@@ -1,4 +1,5 @@
 pub mod Picked
 pub mod Compared
+pub mod Gathered
 pub mod Reached
 pub mod Written

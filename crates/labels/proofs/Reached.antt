@@ -1,15 +1,12 @@
--- What the tables lead to is covered unit by unit; with a unit and its row it is all that hears the unit.
-use mathlib.Core.Path.{_≡_, refl, sym, ap, subst, _∙_}
-use mathlib.Core.Bool.{Bool, true, false, _&&_, _||_}
+-- A unit, its row and what is covered for it are all that hears it.
+use mathlib.Core.Path.{_≡_, refl, sym, subst, _∙_}
+use mathlib.Core.Bool.{Bool, _&&_, _||_}
 use mathlib.Core.List.{List, [], _∷_}
 use mathlib.Core.Logic.{_↔_, _⊎_, inl, inr, ⊎-elim, ⊎-map}
-use Prim.Native.Nat.{ℕ, _+_, _≤_, _<_}
+use Prim.Native.Nat.{ℕ}
 use lib.Dec.{T, eqb, eqb→eq, eqb-refl}
-use lib.ListN.{length, getD, drop}
-use Rattle.std.proofs.shelf.Lists.{at-drop-more, at-drop-all}
-use Rattle.std.proofs.shelf.Tests.{false≢true}
 use Rattle.theory.specs.Maps.{Map, Sound, turned}
-use Rattle.theory.specs.Chains.{On, Heard}
+use Rattle.theory.specs.Chains.{On}
 use Rattle.theory.specs.Hearing.{isHeard}
 use Rattle.theory.specs.Ranks.{rankIn, Orders}
 use Rattle.theory.specs.Rows.{Rows, AllRight, Through, turnedRows}
@@ -21,42 +18,6 @@ use Rattle.theory.proofs.Tables.{says-out, turned-right, reached-by-tables}
 use Rattle.labels.specs.declared.Labels.{Labels}
 use Rattle.labels.specs.Holding.{holds, rows-of}
 use Rattle.labels.specs.Asked.{Kept, covered}
-
--- o: the unit covers something for u; e, i: it is y or has y in its row; a, r: y was covered before, y is covered by the rest
-taken : (o e i a r : Bool) → o ≡ true → ((e || (a || i)) || r) ≡ (a || ((o && (e || i)) || r))
-taken true true i true r h = refl
-taken true true i false r h = refl
-taken true false i true r h = refl
-taken true false i false r h = refl
-taken false e i a r h = absurd (false≢true h)
-
-passed-over : (o x a r : Bool) → o ≡ false → (a || r) ≡ (a || ((o && x) || r))
-passed-over true x a r h = absurd (false≢true (sym h))
-passed-over false x a r h = refl
-
-none-more : (a : Bool) → a ≡ (a || false)
-none-more true = refl
-none-more false = refl
-
-module _ (ins outs : ℕ → ℕ → Bool) (units : List ℕ) (i u y : ℕ) (all whole : Bool) (inv : (all || covered ins outs (drop i units) u y) ≡ whole) where
-  step : i < length units → (all || covered ins outs (getD units i 0 ∷ drop (i + 1) units) u y) ≡ whole
-  step h = ap (λ b. all || b) (sym (at-drop-more (λ ws. covered ins outs ws u y) units i 0 h)) ∙ inv
-
-  pub cover-here : (new : Bool) → new ≡ (eqb y (getD units i 0) || (all || ins (getD units i 0) y)) → i < length units → outs (getD units i 0) u ≡ true
-      → (new || covered ins outs (drop (i + 1) units) u y) ≡ whole
-  cover-here new e h t =
-      ap (λ b. b || covered ins outs (drop (i + 1) units) u y) e
-      ∙ taken (outs (getD units i 0) u) (eqb y (getD units i 0)) (ins (getD units i 0) y) all (covered ins outs (drop (i + 1) units) u y) t
-      ∙ step h
-
-  pub cover-past : (new : Bool) → new ≡ all → i < length units → outs (getD units i 0) u ≡ false → (new || covered ins outs (drop (i + 1) units) u y) ≡ whole
-  cover-past new e h t =
-      ap (λ b. b || covered ins outs (drop (i + 1) units) u y) e
-      ∙ passed-over (outs (getD units i 0) u) (eqb y (getD units i 0) || ins (getD units i 0) y) all (covered ins outs (drop (i + 1) units) u y) t
-      ∙ step h
-
-  pub cover-end : length units ≤ i → all ≡ whole
-  cover-end h = none-more all ∙ ap (λ b. all || b) (sym (at-drop-all (λ ws. covered ins outs ws u y) units i h)) ∙ inv
 
 module _ (ins outs : ℕ → ℕ → Bool) (u y : ℕ) where
   -- x leads from u to y

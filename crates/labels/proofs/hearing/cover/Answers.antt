@@ -1,11 +1,14 @@
 -- A unit of the list adds itself and its in-holders, or nothing.
-use mathlib.Core.Path.{sym, ap, _∙_}
-use mathlib.Core.Bool.{_||_}
+use mathlib.Core.Path.{refl, sym, ap, _∙_}
+use mathlib.Core.Bool.{Bool, _&&_, _||_}
+use mathlib.Core.List.{List}
+use Prim.Native.Nat.{ℕ}
 use lib.Dec.{eqb}
 use lib.ListN.{getD}
 use Rattle.units.specs.Has.{has}
 use Rattle.labels.specs.Holding.{holds}
-use Rattle.labels.proofs.Reached.{cover-here, cover-past, cover-end}
+use Rattle.labels.specs.Asked.{covered}
+use Rattle.labels.proofs.Gathered.{gathered-more, gathered-end, skipped, with-row}
 use Rattle.labels.proofs.hearing.cover.Needs as need
 use Rattle.labels.proofs.hearing.cover.Needs.{then-holds, else-holds}
 
@@ -13,18 +16,21 @@ pub loop-w-again : need.loop-w-again
 loop-w-again c y =
     let ins = holds (c .args .ins .now) in
     let outs = holds (c .args .outs .now) in
-    let units = c .args .units .now in
-    let i = c .loop-w .w-index in
+    let u = c .args .u in
+    let x = getD (c .args .units .now) (c .loop-w .w-index) 0 in
     let old = has (c .loop-w .all) y in
-    elim (c .if-holds .came) [
+    gathered-more (λ ws. covered ins outs ws u y) (λ w. outs w u && (eqb y w || ins w y)) refl (λ w ws. refl) (c .args .units .now) (c .loop-w .w-index) old _ (c .loop-w .inv y) _ (elim (c .if-holds .came) [
       | then-holds w ↦
-          cover-here ins outs units i (c .args .u) y old _ (c .loop-w .inv y) _
-          (ap (λ s. has s y) (w .all-is) ∙ w .insert .ensures y ∙ ap (λ b. eqb y (getD units i 0) || b) (w .union-all .ensures y ∙ ap (λ b. old || b) (w .of .ensures y)))
-          (c .loop-w-test .taken) (sym (w .if-holds .ensures tt))
-      | else-holds w ↦
-          cover-past ins outs units i (c .args .u) y old _ (c .loop-w .inv y) _ (ap (λ s. has s y) (w .all-is)) (c .loop-w-test .taken) (sym (w .if-holds .ensures tt))
-    ]
+          ap (λ s. has s y) (w .all-is)
+          ∙ w .insert .ensures y
+          ∙ ap (λ b. eqb y x || b) (w .union-all .ensures y ∙ ap (λ b. old || b) (w .of .ensures y))
+          ∙ with-row old (outs x u) (eqb y x) (ins x y) (sym (w .if-holds .ensures tt))
+      | else-holds w ↦ ap (λ s. has s y) (w .all-is) ∙ skipped old (outs x u) (eqb y x || ins x y) (sym (w .if-holds .ensures tt))
+    ]) (c .loop-w-test .taken)
 
 pub returns : need.returns
 returns c y =
-    cover-end (holds (c .args .ins .now)) (holds (c .args .outs .now)) (c .args .units .now) (c .loop-w .w-index) (c .args .u) y (has (c .loop-w .all) y) _ (c .loop-w .inv y) (c .loop-w-test .left)
+    let ins = holds (c .args .ins .now) in
+    let outs = holds (c .args .outs .now) in
+    let u = c .args .u in
+    gathered-end (λ ws. covered ins outs ws u y) (λ w. outs w u && (eqb y w || ins w y)) refl (λ w ws. refl) (c .args .units .now) (c .loop-w .w-index) (has (c .loop-w .all) y) _ (c .loop-w .inv y) (c .loop-w-test .left)
