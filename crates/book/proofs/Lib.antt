@@ -1,2 +1,3 @@
 pub mod Agree
 pub mod Answering
+pub mod Listing
