@@ -1,0 +1,13 @@
+use native.Mathlib.Omega.{arith}
+use Rattle.units.specs.Has.{has}
+use Rattle.labels.specs.Holding.{holds}
+use Rattle.mending.proofs.Differences.{difference-one}
+use Rattle.mending.proofs.replace.Needs as need
+
+pub returns : need.returns
+returns c = record {
+  row = c .set .ensures;
+  number = difference-one (holds (c .args .table .now)) (holds (c .set .last .self)) (c .args .u) (has (c .of-old .result)) (has (c .args .set)) (c .difference-len .result)
+      (omega arith) (c .of-old .ensures) (c .set .ensures) (c .difference-len .ensures .number);
+  most = c .difference-len .ensures .most;
+}
