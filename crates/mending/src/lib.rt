@@ -86,3 +86,64 @@ fn renew<M: Map>(
     let row = new_row(m, ins, outs, order, k);
     replace(ins, u, row)
 }
+
+// Makes the rows of all units of the order new, the highest first, in-rows where the unit is one of ups and out-rows where it is
+// one of downs, and tells by how many members they changed.
+fn renew_all<M: Map>(labels: &mut Labels, m: &M, order: &[u8], ups: &UnitSet, downs: &UnitSet) -> u32
+    requires { ⌜ Orders (M·Map .meaning (now m)) (now order) ⌝ }
+    ensures { λ r. ⌜ RenewedAll (M·Map .meaning (now (m .entry))) (now (order .entry)) (has (now (ups .entry))) (has (now (downs .entry))) (now (labels .entry)) (now (labels .exit)) r ⌝ }
+{
+    m.sound();
+    let turned = Turned::over(m);
+    let mut changed = 0;
+    for k in 0..order.len() {
+        let came = renew(m, &mut labels.ins, &labels.outs, order, k, ups);
+        let went = renew(&turned, &mut labels.outs, &labels.ins, order, k, downs);
+        changed += u32::from(came) + u32::from(went);
+    }
+    changed
+}
+
+// Empties the sets of the units of `gone`, and tells how many members they had.
+fn empty_sets(table: &mut Holders, gone: &UnitSet) -> u32
+    ensures sets { λ _. ⌜ ((x v : ℕ) → holds (now (table .exit)) x v ≡ emptied (has (now (gone .entry))) (holds (now (table .entry))) x v) ⌝ }
+    ensures number { λ r. ⌜ r ≡ difference (holds (now (table .entry))) (holds (now (table .exit))) ⌝ }
+    ensures most { λ r. ⌜ r ≤ 65536 ⌝ }
+{
+    let mut changed = 0;
+    let mut c = 0;
+    while let Some(u) = gone.least_above(c) {
+        changed += u32::from(replace(table, u, UnitSet::empty()));
+        c = u;
+    }
+    changed
+}
+
+// Mends the labels after a change of the map and its order: both are given as they are now. Of the labels from before the change
+// only those between a unit of ups and a unit of downs may differ. Tells how many labels came or went.
+pub fn mend<M: Map>(labels: &mut Labels, m: &M, order: &[u8], ups: &UnitSet, downs: &UnitSet) -> u32
+    requires { ⌜ Orders (M·Map .meaning (now m)) (now order) ⌝ }
+    ensures { λ r. ⌜ Mended (M·Map .meaning (now (m .entry))) (now (order .entry)) (now (ups .entry)) (now (downs .entry)) (now (labels .entry)) (now (labels .exit)) r ⌝ }
+{
+    m.sound();
+    let units = m.units();
+    let renewed = renew_all(labels, m, order, ups, downs);
+    let left_ins = empty_sets(&mut labels.ins, &ups.minus(&units));
+    let left_outs = empty_sets(&mut labels.outs, &downs.minus(&units));
+    renewed + left_ins + left_outs
+}
+
+// The labels of a map and its order, made from nothing.
+pub fn build<M: Map>(m: &M, order: &[u8]) -> Labels
+    requires { ⌜ Orders (M·Map .meaning (now m)) (now order) ⌝ }
+    ensures { λ r. ⌜ Exact (M·Map .meaning (now (m .entry))) (now (order .entry)) r ⌝ }
+{
+    m.sound();
+    let all = m.units();
+    let mut labels = Labels {
+        ins: Holders::empty(),
+        outs: Holders::empty(),
+    };
+    let _ = mend(&mut labels, m, order, &all, &all);
+    labels
+}
