@@ -23,14 +23,14 @@ use units::UnitSet;
 use walks::heard_from;
 
 // Makes another set the set of u, and tells by how many members it differs.
-fn replace(table: &mut Holders, u: u8, set: UnitSet) -> u16
+fn replace(table: &mut Holders, u: u8, set: UnitSet) -> u32
     ensures row { λ _. ⌜ ((x v : ℕ) → holds (now (table .exit)) x v ≡ cond (eqb x u) (has set v) (holds (now (table .entry)) x v)) ⌝ }
     ensures number { λ r. ⌜ r ≡ difference (holds (now (table .entry))) (holds (now (table .exit))) ⌝ }
     ensures most { λ r. ⌜ r ≤ 256 ⌝ }
 {
     let old = table.of(u);
     table.set(u, set);
-    old.difference_len(&set)
+    u32::from(old.difference_len(&set))
 }
 
 // What the first k units of the order cover for the next, and those k units.
@@ -74,7 +74,7 @@ fn renew<M: Map>(
     order: &[u8],
     k: usize,
     may: &UnitSet,
-) -> u16
+) -> u32
     requires place { ⌜ k < length (now order) ⌝ }
     requires orders { ⌜ Orders (M·Map .meaning (now m)) (now order) ⌝ }
     ensures { λ r. ⌜ Renewed (M·Map .meaning (now (m .entry))) (now (order .entry)) (getD (now (order .entry)) k 0) (has (now (may .entry))) (now (ins .entry)) (now (outs .entry)) (now (ins .exit)) r ⌝ }
@@ -97,9 +97,9 @@ fn renew_all<M: Map>(labels: &mut Labels, m: &M, order: &[u8], ups: &UnitSet, do
     let turned = Turned::over(m);
     let mut changed = 0;
     for k in 0..order.len() {
-        let came = renew(m, &mut labels.ins, &labels.outs, order, k, ups);
-        let went = renew(&turned, &mut labels.outs, &labels.ins, order, k, downs);
-        changed += u32::from(came) + u32::from(went);
+        let inward = renew(m, &mut labels.ins, &labels.outs, order, k, ups);
+        let outward = renew(&turned, &mut labels.outs, &labels.ins, order, k, downs);
+        changed += inward + outward;
     }
     changed
 }
@@ -113,7 +113,7 @@ fn empty_sets(table: &mut Holders, gone: &UnitSet) -> u32
     let mut changed = 0;
     let mut c = 0;
     while let Some(u) = gone.least_above(c) {
-        changed += u32::from(replace(table, u, UnitSet::empty()));
+        changed += replace(table, u, UnitSet::empty());
         c = u;
     }
     changed
