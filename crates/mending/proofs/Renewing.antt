@@ -105,8 +105,12 @@ renewing-more m order orders ups downs k here old now new n a b ri ro so-far = r
       (di, done-more (turned m) order back k here downs (old .outs) (now .outs) (new .ins) (new .outs) b (so-far .kept-outs) ro (s .outs) (done .1) (done-less m order k (new .ins) di));
   kept-ins = kept-more m order orders k here ups (old .ins) (now .ins) (now .outs) (new .ins) a (so-far .kept-ins) ri;
   kept-outs = kept-more (turned m) order back k here downs (old .outs) (now .outs) (new .ins) (new .outs) b (so-far .kept-outs) ro;
-  number = omega (arith, so-far .number, number-more m order orders k here ups (old .ins) (now .ins) (now .outs) (new .ins) a (so-far .kept-ins) ri,
-      number-more (turned m) order back k here downs (old .outs) (now .outs) (new .ins) (new .outs) b (so-far .kept-outs) ro);
+  number = omega (
+    arith,
+    so-far .number,
+    number-more m order orders k here ups (old .ins) (now .ins) (now .outs) (new .ins) a (so-far .kept-ins) ri,
+    number-more (turned m) order back k here downs (old .outs) (now .outs) (new .ins) (new .outs) b (so-far .kept-outs) ro,
+  );
   most = omega (arith, so-far .most, ri .most, ro .most);
 }
   where

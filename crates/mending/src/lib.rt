@@ -89,7 +89,13 @@ fn renew<M: Map>(
 
 // Makes the rows of all units of the order new, the highest first, in-rows where the unit is one of ups and out-rows where it is
 // one of downs, and tells by how many members they changed.
-fn renew_all<M: Map>(labels: &mut Labels, m: &M, order: &[u8], ups: &UnitSet, downs: &UnitSet) -> u32
+fn renew_all<M: Map>(
+    labels: &mut Labels,
+    m: &M,
+    order: &[u8],
+    ups: &UnitSet,
+    downs: &UnitSet,
+) -> u32
     requires { ⌜ Orders (M·Map .meaning (now m)) (now order) ⌝ }
     ensures { λ r. ⌜ RenewedAll (M·Map .meaning (now (m .entry))) (now (order .entry)) (has (now (ups .entry))) (has (now (downs .entry))) (now (labels .entry)) (now (labels .exit)) r ⌝ }
 {

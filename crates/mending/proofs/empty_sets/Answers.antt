@@ -10,8 +10,8 @@ loop-u-holds c = emptying-none (has (c .args .gone .now)) (holds (c .args .table
 pub loop-u-again : need.loop-u-again
 loop-u-again c =
     let least = c .in-Some .ensures tt in
-    emptying-more (has (c .args .gone .now)) (c .loop-u .c) (c .in-Some .u) (least .0) (omega arith) (least .1) (least .2) (holds (c .args .table .now)) (holds (c .loop-u .table)) (holds (c .replace .last .table))
-    (has (c .empty .result)) (c .empty .ensures) (c .loop-u .changed) (c .replace .result) (c .replace .ensures .row) (c .replace .ensures .number) (c .replace .ensures .most) (c .loop-u .inv)
+    emptying-more (has (c .args .gone .now)) (c .loop-u .c) (c .in-Some .u) (least .0) (omega arith) (least .1) (least .2) (holds (c .args .table .now)) (holds (c .loop-u .table)) (holds (c .replace-changed .last .table))
+    (has (c .empty .result)) (c .empty .ensures) (c .loop-u .changed) (c .replace-changed .result) (c .replace-changed .ensures .row) (c .replace-changed .ensures .number) (c .replace-changed .ensures .most) (c .loop-u .inv)
 
 pub returns : need.returns
 returns c = record {
