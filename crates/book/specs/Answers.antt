@@ -11,7 +11,7 @@ use Rattle.theory.specs.Lists.{labels-changed}
 use Rattle.plain.specs.declared.BookFault.{BookFault}
 use Rattle.plain.specs.declared.BookFault.the-variants as fault
 use Rattle.plain.specs.Plain.{Plain, map-of}
-use Rattle.plain.specs.Requests.{Request, verdict}
+use Rattle.plain.specs.Requests.{Request, verdict, granted, step}
 use Rattle.labels.specs.declared.lists.ShortBuffer.{ShortBuffer}
 
 -- The answer that a request gets: its cause of refusal, or else what it tells.
@@ -37,3 +37,8 @@ pub record Lists (capacity : ℕ) (p : Plain) (r : Request) (list before : List 
 abbrev pub fault-of : Result ℕ ShortBuffer → Result ℕ BookFault
 fault-of (Ok n) = Ok n
 fault-of (Err e) = Err fault.ShortBuffer
+
+-- A request for a change: how many labels it alters, or the cause for which it is refused, is told; the book after it is what the request makes of it.
+pub record Applied (capacity : ℕ) (p : Plain) (r : Request) (answer : Result ℕ BookFault) (after : Plain) : Type 0 where
+  pub told : answer ≡ answered (verdict capacity p r) (alters p (granted p r))
+  pub left : after ≡ step capacity p r

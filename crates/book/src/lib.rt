@@ -4,18 +4,27 @@ ghost use mathlib.Core.Path.{_≡_};
 ghost use mathlib.Core.Bool.{true};
 ghost use mathlib.Core.List.{[], _∷_};
 ghost use lib.ListN.{length};
+ghost use Rattle.std.specs.declared.result.Result.the-variants.{Err};
+ghost use Rattle.theory.specs.Ranks.{Orders};
+ghost use Rattle.ranks.specs.Orders.{order-of};
+ghost use Rattle.mending.specs.Mended.{Mended};
 ghost use Rattle.theory.specs.Lists.{inLabels, outLabels, inHolders, outHolders};
 ghost use Rattle.plain.specs.Plain.{map-of, empty, hears};
-ghost use Rattle.plain.specs.Requests.{Hear, InLabels, OutLabels, InHolders, OutHolders, first-cause, unknown, stands, verdict};
+ghost use Rattle.plain.specs.Requests.{Hear, Pair, Unpair, pair-checks, unpair-checks, InLabels, OutLabels, InHolders, OutHolders, first-cause, unknown, stands, verdict};
 ghost use Rattle.book.specs.Views.{plain-of, Whole};
-ghost use Rattle.book.specs.Answers.{answered, Lists, fault-of};
+ghost use Rattle.book.specs.Answers.{answered, Lists, Applied, fault-of};
+use grid::Matrix;
+use grid::MatrixMap;
 use labels::Holders;
 use labels::Labels;
 use labels::ShortBuffer;
 use maps::Map;
 use maps::Store;
+use mending::mend;
 use plain::BookFault;
+use plain::BookFromStore;
 use ranks::Ranks;
+use units::UnitSet;
 
 pub struct Book<S: Store> {
     store: S,
@@ -116,6 +125,73 @@ impl<S: Store> Book<S> {
     {
         self.check_unit(u)?;
         fitted(self.labels.out_holders(self.ranks.as_slice(), u, buffer))
+    }
+
+    // Mends the labels after the store and the ranks have changed.
+    fn mend_labels(&mut self, ups: &UnitSet, downs: &UnitSet) -> u32
+        requires { ⌜ Orders (S·Map .meaning (now self .store)) (order-of (now self .ranks)) ⌝ }
+        ensures mended { λ r. ⌜ Mended (S·Map .meaning (now (self .entry) .store)) (order-of (now (self .entry) .ranks)) (now (ups .entry)) (now (downs .entry)) (now (self .entry) .labels) (now (self .exit) .labels) r ⌝ }
+        ensures store { λ _. ⌜ now (self .exit) .store ≡ now (self .entry) .store ⌝ }
+        ensures ranks { λ _. ⌜ now (self .exit) .ranks ≡ now (self .entry) .ranks ⌝ }
+    {
+        let map = Matrix::copy_of(&self.store);
+        mend(&mut self.labels, &map, self.ranks.as_slice(), ups, downs)
+    }
+
+    // The first cause for which a is not paired to b.
+    fn check_pair(&self, a: u8, b: u8) -> Result<(), BookFault>
+        requires { ⌜ Whole (S·Map .meaning) (now self) ⌝ }
+        ensures { λ r. ⌜ r ≡ answered (first-cause (pair-checks (S·Store .room) (plain-of (S·Map .meaning) (now (self .entry))) a b)) tt ⌝ }
+    {
+        self.check_both(a, b)?;
+        if self.is_heard(b, a) {
+            return Err(BookFault::Ring);
+        }
+        if self.store.paired(a, b) {
+            return Err(BookFault::AlreadyPaired);
+        }
+        self.store.has_room(1)?;
+        Ok(())
+    }
+
+    // The first cause for which a is not unpaired from b.
+    fn check_unpair(&self, a: u8, b: u8) -> Result<(), BookFault>
+        requires { ⌜ Whole (S·Map .meaning) (now self) ⌝ }
+        ensures { λ r. ⌜ r ≡ answered (first-cause (unpair-checks (plain-of (S·Map .meaning) (now (self .entry))) a b)) tt ⌝ }
+    {
+        self.check_both(a, b)?;
+        if !self.store.paired(a, b) {
+            return Err(BookFault::NotPaired);
+        }
+        Ok(())
+    }
+
+    // Pairs a to b. Tells how many labels stand before or after, and not both.
+    pub fn pair(&mut self, a: u8, b: u8) -> Result<u32, BookFault>
+        requires { ⌜ Whole (S·Map .meaning) (now self) ⌝ }
+        ensures applied { λ r. ⌜ Applied (S·Store .room) (plain-of (S·Map .meaning) (now (self .entry))) (Pair a b) r (plain-of (S·Map .meaning) (now (self .exit))) ⌝ }
+        ensures whole { λ _. ⌜ Whole (S·Map .meaning) (now (self .exit)) ⌝ }
+        ensures kept { λ r. ⌜ ((cause : BookFault) → r ≡ Err cause → now (self .exit) ≡ now (self .entry)) ⌝ }
+    {
+        self.check_pair(a, b)?;
+        let ups = self.labels.heard(self.ranks.as_slice(), a);
+        let downs = self.labels.hearers(self.ranks.as_slice(), b);
+        self.store.join(a, b)?;
+        Ok(self.mend_labels(&ups, &downs))
+    }
+
+    // Takes the pairing of a to b away.
+    pub fn unpair(&mut self, a: u8, b: u8) -> Result<u32, BookFault>
+        requires { ⌜ Whole (S·Map .meaning) (now self) ⌝ }
+        ensures applied { λ r. ⌜ Applied (S·Store .room) (plain-of (S·Map .meaning) (now (self .entry))) (Unpair a b) r (plain-of (S·Map .meaning) (now (self .exit))) ⌝ }
+        ensures whole { λ _. ⌜ Whole (S·Map .meaning) (now (self .exit)) ⌝ }
+        ensures kept { λ r. ⌜ ((cause : BookFault) → r ≡ Err cause → now (self .exit) ≡ now (self .entry)) ⌝ }
+    {
+        self.check_unpair(a, b)?;
+        let ups = self.labels.heard(self.ranks.as_slice(), a);
+        let downs = self.labels.hearers(self.ranks.as_slice(), b);
+        self.store.part(a, b)?;
+        Ok(self.mend_labels(&ups, &downs))
     }
 }
 

@@ -1,0 +1,158 @@
+-- With the rows of all units made new and those of all others emptied, the labels are exact and the changed ones counted.
+use mathlib.Core.Path.{_≡_, refl, sym, subst, ap, _∙_}
+use mathlib.Core.Bool.{Bool, true, false, not, _&&_}
+use mathlib.Core.List.{List, []}
+use mathlib.Core.Logic.{_⊎_, inl, inr}
+use Prim.Native.Nat.{ℕ, _+_, _≤_, _<_}
+use native.Mathlib.Omega.{arith}
+use lib.Dec.{T, leb}
+use Rattle.std.proofs.shelf.Tests.{cases-bool, cases-lt, le-leb, lt-leb, and-left, and-right, and-from, not-from-true, not-from-false}
+use Rattle.units.specs.declared.UnitSet.{UnitSet}
+use Rattle.units.specs.Has.{has}
+use Rattle.theory.specs.Maps.{Map, Sound, turned, nothing}
+use Rattle.theory.specs.Chains.{On}
+use Rattle.theory.specs.Ranks.{rankIn, Orders}
+use Rattle.theory.specs.Labels.{isInLabel}
+use Rattle.theory.specs.Lists.{labels-changed}
+use Rattle.theory.specs.Rows.{Right}
+use Rattle.theory.specs.Turns.{Settled}
+use Rattle.theory.specs.Sizes.{rows-changed}
+use Rattle.theory.specs.Changes.{Frame}
+use Rattle.theory.proofs.Tests.{passes, passed}
+use Rattle.theory.proofs.Maps.{turned-sound, turned-orders}
+use Rattle.theory.proofs.Chains.{heard-first, heard-last}
+use Rattle.theory.proofs.Tables.{decided-by}
+use Rattle.theory.proofs.Turns.{frame-settled}
+use Rattle.theory.proofs.Totals.{changed-by-rows}
+use Rattle.labels.specs.declared.Holders.{Holders}
+use Rattle.labels.specs.declared.Labels.{Labels}
+use Rattle.labels.specs.Holding.{holds, rows-of, Exact}
+use Rattle.mending.specs.Mended.{Mended}
+use Rattle.mending.specs.Steps.{difference, emptied, RenewedAll}
+use Rattle.mending.proofs.Differences.{difference-both, below, on-below, once-below, difference-rows}
+
+-- what is no unit is no label
+off-label : (m : Map) → Sound m → (rank : ℕ → ℕ) (x v : ℕ) → (T (m .unit x) → ⊥) → false ≡ isInLabel m rank x v
+off-label m sound rank x v far = decided-by m sound rank x v false (λ t. absurd t, λ l. absurd (far (heard-first m sound x v (l .heard))))
+
+zero-off : (m : Map) → Sound m → T (m .unit 0) → ⊥
+zero-off m sound t = let low = sound .low 0 t in omega arith
+
+-- one side
+module _ (m : Map) (sound : Sound m) (order : List ℕ) (orders : Orders m order) (may gone : ℕ → Bool) (old made new : ℕ → ℕ → Bool)
+    (those : (k : ℕ) → gone k ≡ (may k && not (m .unit k))) (sets : (x v : ℕ) → new x v ≡ emptied gone made x v)
+    (others : (x : ℕ) → (On x order → ⊥) → (v : ℕ) → made x v ≡ old x v) where
+  -- the set of x is not emptied
+  left : (x : ℕ) → gone x ≡ false → (v : ℕ) → new x v ≡ made x v
+  left x off v = sets x v ∙ ap (λ (b : Bool). not b && made x v) (and-right (leb 1 x) (gone x) off)
+
+  unit-left : (x : ℕ) → m .unit x ≡ true → (v : ℕ) → new x v ≡ made x v
+  unit-left x on = left x (those x ∙ and-right (may x) (not (m .unit x)) (not-from-true (m .unit x) on))
+
+  far : (x : ℕ) → m .unit x ≡ false → On x order → ⊥
+  far x off o = subst T off (orders .only x o)
+
+  one-left : (x : ℕ) → ((v : ℕ) → made x v ≡ old x v) ⊎ ((v : ℕ) → new x v ≡ made x v)
+  one-left x = pick (cases-bool (m .unit x))
+    where
+      pick : (m .unit x ≡ true) ⊎ (m .unit x ≡ false) → ((v : ℕ) → made x v ≡ old x v) ⊎ ((v : ℕ) → new x v ≡ made x v)
+      pick (inl on) = inr (unit-left x on)
+      pick (inr off) = inl (others x (far x off))
+
+  sides : difference old new ≡ difference old made + difference made new
+  sides = difference-both old made new one-left
+
+  module _ (right : (x : ℕ) → On x order → (v : ℕ) → made x v ≡ isInLabel m (rankIn order) x v) (zero : (v : ℕ) → old 0 v ≡ false)
+      (settled : (x : ℕ) → (T (may x) → ⊥) → (v : ℕ) → old x v ≡ isInLabel m (rankIn order) x v) where
+    -- the set of what is no unit any more
+    off-row : (x v : ℕ) → m .unit x ≡ false → (may x ≡ true) ⊎ (may x ≡ false) → (x < 1) ⊎ (1 ≤ x) → new x v ≡ isInLabel m (rankIn order) x v
+    off-row x v off (inl in-may) (inr low) =
+        sets x v ∙ ap (λ (b : Bool). not b && made x v) (and-from (leb 1 x) (gone x) (le-leb 1 x low) (those x ∙ and-from (may x) (not (m .unit x)) in-may (not-from-false (m .unit x) off)))
+        ∙ off-label m sound (rankIn order) x v (λ t. subst T off t)
+    off-row x v off (inl in-may) (inl none) =
+        let is : x ≡ 0 = omega arith in
+        sets x v ∙ ap (λ (b : Bool). not b && made x v) (and-left (leb 1 x) (gone x) (lt-leb 1 x none)) ∙ others x (far x off) v ∙ ap (λ (z : ℕ). old z v) is ∙ zero v
+        ∙ off-label m sound (rankIn order) x v (λ t. subst T off t)
+    off-row x v off (inr out) h =
+        left x (those x ∙ and-left (may x) (not (m .unit x)) out) v ∙ others x (far x off) v ∙ settled x (λ t. subst T out t) v
+
+    all-rows : (x v : ℕ) → new x v ≡ isInLabel m (rankIn order) x v
+    all-rows x v = pick (cases-bool (m .unit x))
+      where
+        pick : (m .unit x ≡ true) ⊎ (m .unit x ≡ false) → new x v ≡ isInLabel m (rankIn order) x v
+        pick (inl on) = unit-left x on v ∙ right x (orders .every x (passes (m .unit x) on)) v
+        pick (inr off) = off-row x v off (cases-bool (may x)) (cases-lt x 1)
+
+-- the two sides, after any change
+pub mended : (m : Map) → Sound m → (order : List ℕ) → Orders m order → (ups downs : UnitSet) (old made new : Labels) (a b c : ℕ) → RenewedAll m order (has ups) (has downs) old made a →
+    (gone-ins gone-outs : ℕ → Bool) → ((k : ℕ) → gone-ins k ≡ (has ups k && not (m .unit k))) → ((k : ℕ) → gone-outs k ≡ (has downs k && not (m .unit k))) →
+    ((x v : ℕ) → holds (new .ins) x v ≡ emptied gone-ins (holds (made .ins)) x v) → ((x v : ℕ) → holds (new .outs) x v ≡ emptied gone-outs (holds (made .outs)) x v) →
+    b ≡ difference (holds (made .ins)) (holds (new .ins)) → c ≡ difference (holds (made .outs)) (holds (new .outs)) → Mended m order ups downs old new (a + b + c)
+mended m sound order orders ups downs old made new a b c all gone-ins gone-outs those-ins those-outs sets-ins sets-outs nb nc before earlier sb ob exact frame = (
+  record { ins = ins; outs = outs },
+  omega (
+    arith,
+    all .number,
+    nb,
+    nc,
+    counted,
+    difference-rows (rows-of old) (rows-of new),
+    sides m sound order orders (has ups) gone-ins (holds (old .ins)) (holds (made .ins)) (holds (new .ins)) those-ins sets-ins (all .other-ins),
+    sides (turned m) back order (turned-orders m order orders) (has downs) gone-outs (holds (old .outs)) (holds (made .outs)) (holds (new .outs)) those-outs sets-outs (all .other-outs),
+  ),
+)
+  where
+    back : Sound (turned m)
+    back = turned-sound m sound
+
+    was : (u : ℕ) → Right before (rankIn earlier) (rows-of old) u
+    was u = record { ins = exact .ins u; outs = exact .outs u }
+
+    settled : (u : ℕ) → Settled m (rankIn order) (rows-of old) (has ups) (has downs) u
+    settled u = frame-settled before sb (rankIn earlier) m sound (rankIn order) (has ups) (has downs) frame (rows-of old) u (was u)
+
+    right : (u : ℕ) → On u order → Right m (rankIn order) (rows-of made) u
+    right = all .right (λ u o. settled u)
+
+    ins : (u v : ℕ) → holds (new .ins) u v ≡ isInLabel m (rankIn order) u v
+    ins = all-rows m sound order orders (has ups) gone-ins (holds (old .ins)) (holds (made .ins)) (holds (new .ins)) those-ins sets-ins (all .other-ins) (λ u o. right u o .ins)
+        (λ v. exact .ins 0 v ∙ sym (off-label before sb (rankIn earlier) 0 v (zero-off before sb))) (λ u. settled u .ins)
+
+    outs : (u v : ℕ) → holds (new .outs) u v ≡ isInLabel (turned m) (rankIn order) u v
+    outs = all-rows (turned m) back order (turned-orders m order orders) (has downs) gone-outs (holds (old .outs)) (holds (made .outs)) (holds (new .outs)) those-outs sets-outs (all .other-outs) (λ u o. right u o .outs)
+        (λ v. exact .outs 0 v ∙ sym (off-label (turned before) (turned-sound before sb) (rankIn earlier) 0 v (zero-off before sb))) (λ u. settled u .outs)
+
+    low : (n : Map) → Sound n → (u : ℕ) → T (n .unit u) → On u (below 256)
+    low n sn u t = let h = sn .high u t in on-below 256 u (omega arith)
+
+    counted : rows-changed (rows-of old) (rows-of new) (below 256) ≡ labels-changed before earlier m order
+    counted =
+        changed-by-rows before sb earlier ob m sound order orders (below 256) (once-below 256) (low before sb) (low m sound) (rows-of old) (rows-of new)
+        (λ u o. was u) (λ u o. record { ins = ins u; outs = outs u })
+
+-- from empty tables, over all units
+pub built : (m : Map) → Sound m → (order : List ℕ) → Orders m order → (all : UnitSet) → ((k : ℕ) → has all k ≡ m .unit k) → (ins outs : Holders) →
+    ((u v : ℕ) → holds ins u v ≡ false) → ((u v : ℕ) → holds outs u v ≡ false) → (new : Labels) (n : ℕ) →
+    Mended m order all all (record { ins = ins; outs = outs }) new n → Exact m order new
+built m sound order orders all units ins outs no-ins no-outs new n mended = mended nothing [] bare (record { every = λ u t. absurd t; only = λ u o. absurd o; once = tt }) exact frame .0
+  where
+    bare : Sound nothing
+    bare = record { low = λ u t. absurd t; high = λ u t. absurd t; from = λ x y t. absurd t; to = λ x y t. absurd t; apart = λ x y t. absurd t }
+
+    exact : Exact nothing [] (record { ins = ins; outs = outs })
+    exact = record {
+      ins = λ u v. no-ins u v ∙ off-label nothing bare (rankIn []) u v (λ t. t);
+      outs = λ u v. no-outs u v ∙ off-label (turned nothing) (turned-sound nothing bare) (rankIn []) u v (λ t. t);
+    }
+
+    in-all : (u : ℕ) → T (m .unit u) → T (has all u)
+    in-all u t = subst T (sym (units u)) t
+
+    frame : Frame nothing (rankIn []) m (rankIn order) (λ u. T (has all u)) (λ v. T (has all v))
+    frame u v far = (
+      (λ l. absurd (heard-first nothing bare u v (l .heard)), λ l. absurd (far (in-all u (heard-first m sound u v (l .heard))) (in-all v (heard-last m sound u v (l .heard))))),
+      (
+        λ l. absurd (heard-first (turned nothing) (turned-sound nothing bare) v u (l .heard)),
+        λ l. absurd (far (in-all u (heard-last (turned m) (turned-sound m sound) v u (l .heard))) (in-all v (heard-first (turned m) (turned-sound m sound) v u (l .heard)))),
+      ),
+    )

@@ -1,0 +1,155 @@
+// The kept labels made from a map and its order of ranks, and mended after any change of the two: only the sets of the
+// units that the change can touch are found again, each by a walk, and the labels that come and go are counted.
+ghost use mathlib.Core.Path.{_≡_};
+ghost use mathlib.Core.Bool.{Bool, cond};
+ghost use Prim.Native.Nat.{ℕ, _+_, _<_, _≤_};
+ghost use lib.Dec.{eqb};
+ghost use lib.ListN.{length, getD};
+ghost use Rattle.units.specs.Has.{has};
+ghost use Rattle.theory.specs.Ranks.{Orders, Once};
+ghost use Rattle.theory.specs.Rows.{MarksBy};
+ghost use Rattle.labels.specs.Holding.{holds, Exact};
+ghost use Rattle.mending.specs.Mended.{Mended};
+ghost use Rattle.mending.specs.Steps.{rows, difference, NewRow, Renewed, RenewedAll, emptied};
+use labels::Holders;
+use labels::Labels;
+use layers::Hiding;
+use layers::HidingMap;
+use layers::Turned;
+use layers::TurnedMap;
+use maps::LentMap;
+use maps::Map;
+use units::UnitSet;
+use walks::heard_from;
+
+// Makes another set the set of u, and tells by how many members it differs.
+fn replace(table: &mut Holders, u: u8, set: UnitSet) -> u32
+    ensures row { λ _. ⌜ ((x v : ℕ) → holds (now (table .exit)) x v ≡ cond (eqb x u) (has set v) (holds (now (table .entry)) x v)) ⌝ }
+    ensures number { λ r. ⌜ r ≡ difference (holds (now (table .entry))) (holds (now (table .exit))) ⌝ }
+    ensures most { λ r. ⌜ r ≤ 256 ⌝ }
+{
+    let old = table.of(u);
+    table.set(u, set);
+    u32::from(old.difference_len(&set))
+}
+
+// What the first k units of the order cover for the next, and those k units.
+fn covered(ins: &Holders, outs: &Holders, order: &[u8], k: usize) -> UnitSet
+    requires place { ⌜ k < length (now order) ⌝ }
+    requires once { ⌜ Once (now order) ⌝ }
+    ensures { λ r. ⌜ MarksBy (now (order .entry)) (rows (now (ins .entry)) (now (outs .entry))) (getD (now (order .entry)) k 0) (has r) ⌝ }
+{
+    let u = order[k];
+    let mut all = UnitSet::empty();
+    for i in 0..k {
+        let w = order[i];
+        all.insert(w);
+        if outs.holds(w, u) {
+            all = all.union(&ins.of(w));
+        }
+    }
+    all
+}
+
+// The in-row of the unit at place k of the order, where the rows of the units before it are right.
+fn new_row<M: Map>(m: &M, ins: &Holders, outs: &Holders, order: &[u8], k: usize) -> UnitSet
+    requires place { ⌜ k < length (now order) ⌝ }
+    requires orders { ⌜ Orders (M·Map .meaning (now m)) (now order) ⌝ }
+    ensures { λ r. ⌜ NewRow (M·Map .meaning (now (m .entry))) (now (order .entry)) (rows (now (ins .entry)) (now (outs .entry))) (getD (now (order .entry)) k 0) (has r) ⌝ }
+{
+    m.sound();
+    let u = order[k];
+    let hidden = covered(ins, outs, order, k);
+    let mut row = heard_from(&Hiding::without(m, hidden), u);
+    row.remove(u);
+    row
+}
+
+// Makes the in-row of the unit at place k of the order new where that unit is one of `may`, and tells by how many members it
+// changed. Over the turned map and the tables swapped it does so for the out-row.
+fn renew<M: Map>(
+    m: &M,
+    ins: &mut Holders,
+    outs: &Holders,
+    order: &[u8],
+    k: usize,
+    may: &UnitSet,
+) -> u32
+    requires place { ⌜ k < length (now order) ⌝ }
+    requires orders { ⌜ Orders (M·Map .meaning (now m)) (now order) ⌝ }
+    ensures { λ r. ⌜ Renewed (M·Map .meaning (now (m .entry))) (now (order .entry)) (getD (now (order .entry)) k 0) (has (now (may .entry))) (now (ins .entry)) (now (outs .entry)) (now (ins .exit)) r ⌝ }
+{
+    let u = order[k];
+    if !may.contains(u) {
+        return 0;
+    }
+    let row = new_row(m, ins, outs, order, k);
+    replace(ins, u, row)
+}
+
+// Makes the rows of all units of the order new, the highest first, in-rows where the unit is one of ups and out-rows where it is
+// one of downs, and tells by how many members they changed.
+fn renew_all<M: Map>(
+    labels: &mut Labels,
+    m: &M,
+    order: &[u8],
+    ups: &UnitSet,
+    downs: &UnitSet,
+) -> u32
+    requires { ⌜ Orders (M·Map .meaning (now m)) (now order) ⌝ }
+    ensures { λ r. ⌜ RenewedAll (M·Map .meaning (now (m .entry))) (now (order .entry)) (has (now (ups .entry))) (has (now (downs .entry))) (now (labels .entry)) (now (labels .exit)) r ⌝ }
+{
+    m.sound();
+    let turned = Turned::over(m);
+    let mut changed = 0;
+    for k in 0..order.len() {
+        let inward = renew(m, &mut labels.ins, &labels.outs, order, k, ups);
+        let outward = renew(&turned, &mut labels.outs, &labels.ins, order, k, downs);
+        changed += inward + outward;
+    }
+    changed
+}
+
+// Empties the sets of the units of `gone`, and tells how many members they had.
+fn empty_sets(table: &mut Holders, gone: &UnitSet) -> u32
+    ensures sets { λ _. ⌜ ((x v : ℕ) → holds (now (table .exit)) x v ≡ emptied (has (now (gone .entry))) (holds (now (table .entry))) x v) ⌝ }
+    ensures number { λ r. ⌜ r ≡ difference (holds (now (table .entry))) (holds (now (table .exit))) ⌝ }
+    ensures most { λ r. ⌜ r ≤ 65536 ⌝ }
+{
+    let mut changed = 0;
+    let mut c = 0;
+    while let Some(u) = gone.least_above(c) {
+        changed += replace(table, u, UnitSet::empty());
+        c = u;
+    }
+    changed
+}
+
+// Mends the labels after a change of the map and its order: both are given as they are now. Of the labels from before the change
+// only those between a unit of ups and a unit of downs may differ. Tells how many labels came or went.
+pub fn mend<M: Map>(labels: &mut Labels, m: &M, order: &[u8], ups: &UnitSet, downs: &UnitSet) -> u32
+    requires { ⌜ Orders (M·Map .meaning (now m)) (now order) ⌝ }
+    ensures { λ r. ⌜ Mended (M·Map .meaning (now (m .entry))) (now (order .entry)) (now (ups .entry)) (now (downs .entry)) (now (labels .entry)) (now (labels .exit)) r ⌝ }
+{
+    m.sound();
+    let units = m.units();
+    let renewed = renew_all(labels, m, order, ups, downs);
+    let left_ins = empty_sets(&mut labels.ins, &ups.minus(&units));
+    let left_outs = empty_sets(&mut labels.outs, &downs.minus(&units));
+    renewed + left_ins + left_outs
+}
+
+// The labels of a map and its order, made from nothing.
+pub fn build<M: Map>(m: &M, order: &[u8]) -> Labels
+    requires { ⌜ Orders (M·Map .meaning (now m)) (now order) ⌝ }
+    ensures { λ r. ⌜ Exact (M·Map .meaning (now (m .entry))) (now (order .entry)) r ⌝ }
+{
+    m.sound();
+    let all = m.units();
+    let mut labels = Labels {
+        ins: Holders::empty(),
+        outs: Holders::empty(),
+    };
+    let _ = mend(&mut labels, m, order, &all, &all);
+    labels
+}
