@@ -202,13 +202,6 @@ mod tests {
     }
 
     #[test]
-    fn fault_marks() -> Result<(), Fail> {
-        check_eq(StoreFault::Unknown.number(), 4)?;
-        check_eq(StoreFault::NotPaired.number(), 9)?;
-        check_eq(StoreFault::Full.letter(), 83)
-    }
-
-    #[test]
     fn copies() -> Result<(), Fail> {
         let g = small()?;
         let mut other = Grid::new();
@@ -243,32 +236,5 @@ mod tests {
         pile.hide(4)?;
         check_eq(heard_from(&pile, 1).len(), 4)?;
         check_eq(pile.least_source_above(3, 0), Some(2))
-    }
-
-    #[test]
-    fn sets() -> Result<(), Fail> {
-        let mut a = UnitSet::empty();
-        a.insert(1);
-        a.insert(64);
-        a.insert(255);
-        let mut b = UnitSet::empty();
-        b.insert(64);
-        b.insert(200);
-        check_eq(a.difference_len(&b), 3)?;
-        check_eq(a.union(&b).len(), 4)?;
-        check(a.intersects(&b))?;
-        check_eq(a.intersection(&b).least_above(0), Some(64))?;
-        check_eq(a.least_above(64), Some(255))?;
-        check_eq(a.least_above(255), None)
-    }
-
-    #[test]
-    fn pairs_both_ways() -> Result<(), Fail> {
-        let mut g = small()?;
-        check(!both_ways(&g, 1, 2))?;
-        g.join(2, 1)?;
-        check(both_ways(&g, 1, 2))?;
-        check_eq(first_source(&g, 3), Some(2))?;
-        check_eq(fits_two(&g), Ok(()))
     }
 }
