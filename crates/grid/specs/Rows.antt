@@ -11,15 +11,19 @@ use Rattle.theory.specs.Maps.{Map}
 abbrev pub map-of : UnitSet → List UnitSet → Map
 map-of units listeners = record { unit = has units; pair = in-row listeners }
 
+-- 0 is no unit
 abbrev pub No-zero : UnitSet → Type 0
 No-zero units = has units 0 ≡ false
 
+-- what has a listener is a unit
 abbrev pub From-stands : UnitSet → List UnitSet → Type 0
 From-stands units listeners = (x y : ℕ) → in-row listeners x y ≡ true → has units x ≡ true
 
+-- what listens is a unit
 abbrev pub To-stands : UnitSet → List UnitSet → Type 0
 To-stands units listeners = (x y : ℕ) → in-row listeners x y ≡ true → has units y ≡ true
 
+-- none listens to itself
 abbrev pub Apart : List UnitSet → Type 0
 Apart listeners = (x : ℕ) → in-row listeners x x ≡ false
 

@@ -1,7 +1,7 @@
 // What maps, stores, layers and searches do together: small uses of them with contracts, and tests.
 ghost use mathlib.Core.Path.{_≡_};
 ghost use mathlib.Core.Bool.{_&&_};
-ghost use Prim.Native.Nat.{ℕ, _-_};
+ghost use Prim.Native.Nat.{ℕ};
 ghost use lib.Dec.{eqb};
 ghost use Rattle.std.specs.Results.{Cases};
 ghost use Rattle.std.specs.declared.option.Option.the-variants.{Some};
@@ -15,7 +15,6 @@ ghost use Rattle.walks.specs.Levels.{Fewest};
 ghost use Rattle.grid.specs.Held.{grid-map};
 use grid::Grid;
 use grid::GridMap;
-use grid::GridStore;
 use layers::Hiding;
 use layers::HidingMap;
 use layers::Turned;
@@ -40,13 +39,6 @@ pub fn first_source<M: Map>(m: &M, b: u8) -> Option<u8>
     ensures { λ r. ⌜ Least (λ a. M·Map .meaning (now (m .entry)) .pair a b) 1 r ⌝ }
 {
     m.least_source_above(b, 0)
-}
-
-// How many pairings more there is room for.
-pub fn free_room<S: Store>(s: &S) -> u16
-    ensures { λ r. ⌜ r ≡ S·Store .room - pair-count (S·Map .meaning (now (s .entry))) ⌝ }
-{
-    s.capacity() - s.pairings()
 }
 
 // Whether two pairings more fit.
@@ -90,47 +82,10 @@ pub fn fewest_outside<M: Map>(m: &M, marks: &UnitSet, s: u8, t: u8) -> Option<u1
     fewest_pairings(&pile, s, t)
 }
 
-// Puts the units from 1 to n into the store.
-pub fn put_to<S: Store>(s: &mut S, n: u8) -> Result<(), StoreFault> {
-    for u in 0..n {
-        s.put(u + 1)?;
-    }
-    Ok(())
-}
-
-// Pairs a to every other unit from 1 to n, or to as many as there is room for.
-pub fn pair_to_all<S: Store>(s: &mut S, a: u8, n: u8) -> Result<(), StoreFault> {
-    for u in 0..n {
-        if u + 1 != a {
-            s.join(a, u + 1)?;
-        }
-    }
-    Ok(())
-}
-
-// Pairs each unit from 1 to n to every other, as long as there is room.
-pub fn fill<S: Store>(s: &mut S, n: u8) -> Result<(), StoreFault> {
-    for u in 0..n {
-        pair_to_all(s, u + 1, n)?;
-    }
-    Ok(())
-}
-
-// A grid with the units 1 to 5: 1 to 2, 2 to 3, 1 to 4, 4 to 3, 3 to 5.
-pub fn small() -> Result<Grid, StoreFault> {
-    let mut g = Grid::new();
-    put_to(&mut g, 5)?;
-    g.join(1, 2)?;
-    g.join(2, 3)?;
-    g.join(1, 4)?;
-    g.join(4, 3)?;
-    g.join(3, 5)?;
-    Ok(g)
-}
-
 #[cfg(test)]
 mod tests {
     use super::*;
+    use grid::GridStore;
     use grid::Matrix;
     use grid::MatrixMap;
     use maps::StoreFaultDebug;
@@ -138,62 +93,112 @@ mod tests {
     use maps::copy_map;
     use std::test::*;
 
-    #[test]
-    fn fills_and_refills() -> Result<(), Fail> {
+    // Puts the units from 1 to n into the store.
+    fn put_to<S: Store>(s: &mut S, n: u8) -> Result<(), StoreFault> {
+        for u in 0..n {
+            s.put(u + 1)?;
+        }
+        Ok(())
+    }
+
+    // Pairs a to every other unit from 1 to n, or to as many as there is room for.
+    fn pair_to_all<S: Store>(s: &mut S, a: u8, n: u8) -> Result<(), StoreFault> {
+        for u in 0..n {
+            if u + 1 != a {
+                s.join(a, u + 1)?;
+            }
+        }
+        Ok(())
+    }
+
+    // Pairs each unit from 1 to n to every other, as long as there is room.
+    fn fill<S: Store>(s: &mut S, n: u8) -> Result<(), StoreFault> {
+        for u in 0..n {
+            pair_to_all(s, u + 1, n)?;
+        }
+        Ok(())
+    }
+
+    // A grid with the units 1 to 5: 1 to 2, 2 to 3, 1 to 4, 4 to 3, 3 to 5.
+    fn small() -> Result<Grid, StoreFault> {
+        let mut g = Grid::new();
+        put_to(&mut g, 5)?;
+        g.join(1, 2)?;
+        g.join(2, 3)?;
+        g.join(1, 4)?;
+        g.join(4, 3)?;
+        g.join(3, 5)?;
+        Ok(g)
+    }
+
+    // A grid with as many pairings as it has room for, among the units 1 to 90: all but 90 to 80 and on.
+    fn full() -> Result<Grid, Fail> {
         let mut g = Grid::new();
         put_to(&mut g, 90)?;
         check_eq(fill(&mut g, 90), Err(StoreFault::Full))?;
+        Ok(g)
+    }
+
+    #[test]
+    fn fills() -> Result<(), Fail> {
+        let g = full()?;
         check_eq(g.pairings(), g.capacity())?;
-        check_eq(g.join(90, 89), Err(StoreFault::Full))?;
         check_eq(g.has_room(0), Ok(()))?;
-        check_eq(g.has_room(1), Err(StoreFault::Full))?;
+        check_eq(g.has_room(1), Err(StoreFault::Full))
+    }
+
+    #[test]
+    fn frees_and_refills() -> Result<(), Fail> {
+        let mut g = full()?;
         check_eq(part_and_count(&mut g, 1, 2)?, 7999)?;
         g.join(90, 89)?;
-        check_eq(g.join(1, 2), Err(StoreFault::Full))?;
-        g.take(1)?;
-        check_eq(g.pairings(), 7823)?;
-        check(!g.stands(1))?;
-        g.put(1)?;
-        check(g.sources(1).is_empty())?;
+        check_eq(g.join(1, 2), Err(StoreFault::Full))
+    }
+
+    #[test]
+    fn takes_and_refills() -> Result<(), Fail> {
+        let mut g = full()?;
+        unpair_all(&mut g, 1)?;
+        check_eq(g.pairings(), 7822)?;
+        check(g.sources(2).least_above(0) == Some(3))?;
         g.join(1, 2)?;
-        check_eq(free_room(&g), 176)
+        check_eq(g.has_room(178), Err(StoreFault::Full))
     }
 
     #[test]
     fn first_cause_at_capacity() -> Result<(), Fail> {
-        let mut g = Grid::new();
-        put_to(&mut g, 90)?;
-        check_eq(fill(&mut g, 90), Err(StoreFault::Full))?;
+        let mut g = full()?;
         check_eq(g.join(91, 91), Err(StoreFault::Unknown))?;
-        check_eq(g.join(1, 91), Err(StoreFault::Unknown))?;
         check_eq(g.join(1, 1), Err(StoreFault::SameUnit))?;
         check_eq(g.join(1, 2), Err(StoreFault::AlreadyPaired))?;
-        check_eq(g.join(90, 88), Err(StoreFault::Full))?;
-        check_eq(g.pairings(), 8000)
+        check_eq(g.join(90, 88), Err(StoreFault::Full))
     }
 
     #[test]
-    fn refusals() -> Result<(), Fail> {
+    fn puts_and_takes_refused() -> Result<(), Fail> {
         let mut g = small()?;
         check_eq(g.put(0), Err(StoreFault::Zero))?;
         check_eq(g.put(5), Err(StoreFault::Standing))?;
         check_eq(g.take(0), Err(StoreFault::Unknown))?;
-        check_eq(g.take(6), Err(StoreFault::Unknown))?;
+        check_eq(g.take(6), Err(StoreFault::Unknown))
+    }
+
+    #[test]
+    fn joins_refused() -> Result<(), Fail> {
+        let mut g = small()?;
         check_eq(g.join(6, 6), Err(StoreFault::Unknown))?;
-        check_eq(g.join(0, 1), Err(StoreFault::Unknown))?;
+        check_eq(g.join(1, 6), Err(StoreFault::Unknown))?;
         check_eq(g.join(5, 5), Err(StoreFault::SameUnit))?;
-        check_eq(g.join(1, 2), Err(StoreFault::AlreadyPaired))?;
+        check_eq(g.join(1, 2), Err(StoreFault::AlreadyPaired))
+    }
+
+    #[test]
+    fn parts_refused() -> Result<(), Fail> {
+        let mut g = small()?;
         check_eq(g.part(1, 6), Err(StoreFault::Unknown))?;
         check_eq(g.part(1, 1), Err(StoreFault::NotPaired))?;
         check_eq(g.part(2, 1), Err(StoreFault::NotPaired))?;
         check_eq(g.pairings(), 5)
-    }
-
-    #[test]
-    fn fault_marks() -> Result<(), Fail> {
-        check_eq(StoreFault::Unknown.number(), 4)?;
-        check_eq(StoreFault::NotPaired.number(), 9)?;
-        check_eq(StoreFault::Full.letter(), 83)
     }
 
     #[test]
@@ -212,7 +217,7 @@ mod tests {
     }
 
     #[test]
-    fn piles() -> Result<(), Fail> {
+    fn fewest_in_a_pile() -> Result<(), Fail> {
         let g = small()?;
         let mut marks = UnitSet::empty();
         marks.insert(2);
@@ -220,43 +225,16 @@ mod tests {
         marks.insert(4);
         check_eq(fewest_outside(&g, &marks, 1, 5), None)?;
         check_eq(fewest_outside(&g, &marks, 2, 2), None)?;
-        check_eq(fewest_pairings(&g, 1, 1), Some(0))?;
-        let got = sources_without(g, 3, 5)?;
-        check_eq(got.len(), 1)?;
+        check_eq(fewest_pairings(&g, 1, 1), Some(0))
+    }
+
+    #[test]
+    fn heard_in_a_pile() -> Result<(), Fail> {
+        check_eq(sources_without(small()?, 3, 5)?.len(), 1)?;
         let mut pile = Hiding::over(small()?);
         check_eq(pile.hide(0), Err(StoreFault::Zero))?;
         pile.hide(4)?;
         check_eq(heard_from(&pile, 1).len(), 4)?;
-        check_eq(pile.least_source_above(3, 0), Some(2))?;
-        check_eq(pile.into_below().least_source_above(3, 2), Some(4))
-    }
-
-    #[test]
-    fn sets() -> Result<(), Fail> {
-        let mut a = UnitSet::empty();
-        a.insert(1);
-        a.insert(64);
-        a.insert(255);
-        let mut b = UnitSet::empty();
-        b.insert(64);
-        b.insert(200);
-        check_eq(a.difference_len(&b), 3)?;
-        check_eq(a.union(&b).len(), 4)?;
-        check(a.intersects(&b))?;
-        check_eq(a.intersection(&b).least_above(0), Some(64))?;
-        check_eq(a.least_above(64), Some(255))?;
-        check_eq(a.least_above(255), None)
-    }
-
-    #[test]
-    fn one_left_of_each() -> Result<(), Fail> {
-        let mut g = small()?;
-        check(!both_ways(&g, 1, 2))?;
-        g.join(2, 1)?;
-        check(both_ways(&g, 1, 2))?;
-        check_eq(first_source(&g, 3), Some(2))?;
-        unpair_all(&mut g, 2)?;
-        check_eq(first_source(&g, 3), Some(4))?;
-        check_eq(fits_two(&g), Ok(()))
+        check_eq(pile.least_source_above(3, 0), Some(2))
     }
 }
