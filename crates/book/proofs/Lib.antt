@@ -1,3 +1,5 @@
 pub mod Agree
 pub mod Answering
 pub mod Listing
+pub mod Changing
+pub mod Pairing
