@@ -10,7 +10,7 @@ ghost use Rattle.ranks.specs.Orders.{order-of};
 ghost use Rattle.mending.specs.Mended.{Mended};
 ghost use Rattle.theory.specs.Lists.{inLabels, outLabels, inHolders, outHolders};
 ghost use Rattle.plain.specs.Plain.{map-of, empty, hears};
-ghost use Rattle.plain.specs.Requests.{Hear, Pair, Unpair, pair-checks, unpair-checks, InLabels, OutLabels, InHolders, OutHolders, first-cause, unknown, stands, verdict};
+ghost use Rattle.plain.specs.Requests.{Hear, Pair, Unpair, Drop, Rank, rank-checks, pair-checks, unpair-checks, InLabels, OutLabels, InHolders, OutHolders, first-cause, unknown, stands, verdict};
 ghost use Rattle.book.specs.Views.{plain-of, Whole};
 ghost use Rattle.book.specs.Answers.{answered, Lists, Applied, fault-of};
 use grid::Matrix;
@@ -191,6 +191,46 @@ impl<S: Store> Book<S> {
         let ups = self.labels.heard(self.ranks.as_slice(), a);
         let downs = self.labels.hearers(self.ranks.as_slice(), b);
         self.store.part(a, b)?;
+        Ok(self.mend_labels(&ups, &downs))
+    }
+
+    // The first cause for which v is not moved to the rank k.
+    fn check_rank(&self, v: u8, k: u8) -> Result<(), BookFault>
+        ensures { λ r. ⌜ r ≡ answered (first-cause (rank-checks (plain-of (S·Map .meaning) (now (self .entry))) v k)) tt ⌝ }
+    {
+        self.check_unit(v)?;
+        if k == 0 || k > self.ranks.len() {
+            return Err(BookFault::RankOutside);
+        }
+        Ok(())
+    }
+
+    // Takes v out, with its pairings; lower units move up.
+    pub fn drop_unit(&mut self, v: u8) -> Result<u32, BookFault>
+        requires { ⌜ Whole (S·Map .meaning) (now self) ⌝ }
+        ensures applied { λ r. ⌜ Applied (S·Store .room) (plain-of (S·Map .meaning) (now (self .entry))) (Drop v) r (plain-of (S·Map .meaning) (now (self .exit))) ⌝ }
+        ensures whole { λ _. ⌜ Whole (S·Map .meaning) (now (self .exit)) ⌝ }
+        ensures kept { λ r. ⌜ ((cause : BookFault) → r ≡ Err cause → now (self .exit) ≡ now (self .entry)) ⌝ }
+    {
+        self.check_unit(v)?;
+        let ups = self.labels.heard(self.ranks.as_slice(), v);
+        let downs = self.labels.hearers(self.ranks.as_slice(), v);
+        self.store.take(v)?;
+        self.ranks.remove(v);
+        Ok(self.mend_labels(&ups, &downs))
+    }
+
+    // Takes v out of the order and puts it back at rank k; the others keep their order.
+    pub fn rank(&mut self, v: u8, k: u8) -> Result<u32, BookFault>
+        requires { ⌜ Whole (S·Map .meaning) (now self) ⌝ }
+        ensures applied { λ r. ⌜ Applied (S·Store .room) (plain-of (S·Map .meaning) (now (self .entry))) (Rank v k) r (plain-of (S·Map .meaning) (now (self .exit))) ⌝ }
+        ensures whole { λ _. ⌜ Whole (S·Map .meaning) (now (self .exit)) ⌝ }
+        ensures kept { λ r. ⌜ ((cause : BookFault) → r ≡ Err cause → now (self .exit) ≡ now (self .entry)) ⌝ }
+    {
+        self.check_rank(v, k)?;
+        let ups = self.labels.heard(self.ranks.as_slice(), v);
+        let downs = self.labels.hearers(self.ranks.as_slice(), v);
+        self.ranks.move_to(k - 1, v);
         Ok(self.mend_labels(&ups, &downs))
     }
 }

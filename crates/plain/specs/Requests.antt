@@ -75,6 +75,9 @@ pair-checks capacity p source listener =
 abbrev pub unpair-checks : Plain → ℕ → ℕ → List Check
 unpair-checks p source listener = unknown p (source ∷ listener ∷ []) ∷ (fault.NotPaired, not (p .pair source listener)) ∷ []
 
+abbrev pub rank-checks : Plain → ℕ → ℕ → List Check
+rank-checks p unit rank = unknown p (unit ∷ []) ∷ no-rank (length (p .order)) rank ∷ []
+
 -- The causes of each request, in the order in which they are looked for.
 unfoldable pub checks : ℕ → Plain → Request → List Check
 checks capacity p Make = []
@@ -84,7 +87,7 @@ checks capacity p (Enrol unit rank sources listeners) = new-unit p unit ++ (no-r
 checks capacity p (Drop unit) = unknown p (unit ∷ []) ∷ []
 checks capacity p (Pair source listener) = pair-checks capacity p source listener
 checks capacity p (Unpair source listener) = unpair-checks p source listener
-checks capacity p (Rank unit rank) = unknown p (unit ∷ []) ∷ no-rank (length (p .order)) rank ∷ []
+checks capacity p (Rank unit rank) = rank-checks p unit rank
 checks capacity p (Hear source listener) = unknown p (source ∷ listener ∷ []) ∷ []
 checks capacity p (BestPlace unit sources listeners) = new-unit p unit ++ partners capacity p sources listeners
 checks capacity p (InLabels unit room) = short-list p (inLabels (map-of p) (p .order) unit) unit room
