@@ -3,3 +3,4 @@ pub mod Answering
 pub mod Listing
 pub mod Changing
 pub mod Pairing
+pub mod Moving
