@@ -4,3 +4,4 @@ pub mod Listing
 pub mod Changing
 pub mod Pairing
 pub mod Moving
+pub mod Enrolling

@@ -75,6 +75,9 @@ pair-checks capacity p source listener =
 abbrev pub unpair-checks : Plain → ℕ → ℕ → List Check
 unpair-checks p source listener = unknown p (source ∷ listener ∷ []) ∷ (fault.NotPaired, not (p .pair source listener)) ∷ []
 
+abbrev pub enrol-checks : ℕ → Plain → ℕ → ℕ → List ℕ → List ℕ → List Check
+enrol-checks capacity p unit rank sources listeners = new-unit p unit ++ (no-rank (length (p .order) + 1) rank ∷ partners capacity p sources listeners)
+
 abbrev pub rank-checks : Plain → ℕ → ℕ → List Check
 rank-checks p unit rank = unknown p (unit ∷ []) ∷ no-rank (length (p .order)) rank ∷ []
 
@@ -83,7 +86,7 @@ unfoldable pub checks : ℕ → Plain → Request → List Check
 checks capacity p Make = []
 checks capacity p (Load page) =
     (fault.UnlawfulPage, not (lawful-page page)) ∷ (fault.Ring, has-ring (page-book page)) ∷ too-many capacity (pair-count (map-of (page-book page))) ∷ []
-checks capacity p (Enrol unit rank sources listeners) = new-unit p unit ++ (no-rank (length (p .order) + 1) rank ∷ partners capacity p sources listeners)
+checks capacity p (Enrol unit rank sources listeners) = enrol-checks capacity p unit rank sources listeners
 checks capacity p (Drop unit) = unknown p (unit ∷ []) ∷ []
 checks capacity p (Pair source listener) = pair-checks capacity p source listener
 checks capacity p (Unpair source listener) = unpair-checks p source listener
