@@ -31,19 +31,10 @@ pub skipped : (a o z : Bool) → o ≡ false → a ≡ (a || (o && z))
 skipped a true z h = absurd (false≢true (sym h))
 skipped a false z h = sym (or-false a)
 
--- a unit with its row is added
-pub with-row : (a o e r : Bool) → o ≡ true → (e || (a || r)) ≡ (a || (o && (e || r)))
-with-row true true true r h = refl
-with-row true true false r h = refl
-with-row false true e r h = refl
-with-row a false e r h = absurd (false≢true h)
-
--- a unit is added
-pub with-one : (a o e : Bool) → o ≡ true → (e || a) ≡ (a || (o && e))
-with-one true true true h = refl
-with-one true true false h = refl
-with-one false true e h = or-false e
-with-one a false e h = absurd (false≢true h)
+-- what adds z
+pub joined : (a o z : Bool) → o ≡ true → (a || z) ≡ (a || (o && z))
+joined a true z h = refl
+joined a false z h = absurd (false≢true h)
 
 swapped : (e h j : Bool) → (e ≡ true → h ≡ j) → (e && h) ≡ (j && e)
 swapped true true true same = refl
