@@ -50,5 +50,5 @@ keys-more f k x xs =
     and-or-distrib-right (eqb k x) (listed k xs) (f k) ∙ ap (λ b. b || (listed k xs && f k)) (swapped (eqb k x) (f k) (f x) (λ e. ap f (eqb-true k x e)))
 
 -- picked again from the list they are those that pass the test
-pub picked-keys : (f g t : ℕ → Bool) (xs : List ℕ) → ((k : ℕ) → g k ≡ (listed k xs && f k)) → ((x : ℕ) → f x ≡ t x) → picked g xs ≡ picked t xs
-picked-keys f g t xs e same = picked-same g t xs (λ x o. e x ∙ ap (λ b. b && f x) (passed (listed x xs) (listed-on x xs .1 o)) ∙ same x)
+pub picked-keys : (f g : ℕ → Bool) (xs : List ℕ) → ((k : ℕ) → g k ≡ (listed k xs && f k)) → picked g xs ≡ picked f xs
+picked-keys f g xs e = picked-same g f xs (λ x o. e x ∙ ap (λ b. b && f x) (passed (listed x xs) (listed-on x xs .1 o)))

@@ -1,7 +1,6 @@
 -- A unit of the order is added where its set has v.
 use mathlib.Core.Path.{refl, sym, ap, _∙_}
-use mathlib.Core.Bool.{Bool, _&&_, or-comm}
-use mathlib.Core.List.{List}
+use mathlib.Core.Bool.{_&&_, or-comm}
 use Prim.Native.Nat.{ℕ}
 use lib.Dec.{eqb}
 use lib.ListN.{getD}
