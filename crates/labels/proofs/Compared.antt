@@ -1,5 +1,5 @@
--- What two units share by exact labels is what they share by the definition, and tells whether the one hears the other.
-use mathlib.Core.Path.{_≡_, refl, sym, ap, ap₂, _∙_}
+-- What two units share by exact labels is what they share by the definition, and tells whether the one hears the other, and through which highest unit.
+use mathlib.Core.Path.{_≡_, refl, sym, ap, ap₂, subst, _∙_}
 use mathlib.Core.Bool.{Bool, true, false, _&&_, _||_}
 use mathlib.Core.List.{List}
 use mathlib.Core.Logic.{_↔_}
@@ -13,13 +13,13 @@ use Rattle.theory.specs.Maps.{Map, turned, listed}
 use Rattle.theory.specs.Chains.{Heard}
 use Rattle.theory.specs.Hearing.{isHeard}
 use Rattle.theory.specs.Ranks.{rankIn}
-use Rattle.theory.specs.Labels.{isInLabel}
+use Rattle.theory.specs.Labels.{Highest, isInLabel}
 use Rattle.theory.specs.Lists.{picked, first, inLabels, outLabels, highestShared}
 use Rattle.theory.proofs.Tests.{same-tests}
 use Rattle.theory.proofs.Warshall.{hearing-decided}
 use Rattle.theory.proofs.Shared.{highest-shared}
 use Rattle.labels.specs.declared.Labels.{Labels}
-use Rattle.labels.specs.Holding.{holds, Exact}
+use Rattle.labels.specs.Holding.{Exact}
 use Rattle.labels.specs.Asked.{Kept, sharing}
 use Rattle.labels.proofs.Picked.{picked-same, listed-picked}
 
@@ -39,14 +39,16 @@ some-where (Some x) false P by none =
     let z : _≡_ {A = ℕ} 0 1 = cc in
     absurd (omega arith)
 
-pub shared-told : (order : List ℕ) (l : Labels) (s t : ℕ) (r : Option ℕ) → r ≡ first (picked (sharing l s t) order) →
-    ((m : Map) → Exact m order l → r ≡ highestShared m order s t) × ((m : Map) → Kept m order l → T (m .unit s) → T (m .unit t) → isSome r ≡ isHeard m s t)
-shared-told order l s t r e = (shared, heard)
-  where
-    shared : (m : Map) → Exact m order l → r ≡ highestShared m order s t
-    shared m exact = e ∙ shared-is m order l exact s t
+module _ (order : List ℕ) (l : Labels) (s t : ℕ) (r : Option ℕ) (e : r ≡ first (picked (sharing l s t) order)) where
+  pub told-shared : (m : Map) → Exact m order l → r ≡ highestShared m order s t
+  told-shared m exact = e ∙ shared-is m order l exact s t
 
-    heard : (m : Map) → Kept m order l → T (m .unit s) → T (m .unit t) → isSome r ≡ isHeard m s t
-    heard m kept us ut =
-        ap isSome (shared m (kept .exact))
+  module _ (m : Map) (kept : Kept m order l) (us : T (m .unit s)) (ut : T (m .unit t)) where
+    pub told-heard : isSome r ≡ isHeard m s t
+    told-heard =
+        ap isSome (told-shared m (kept .exact))
         ∙ some-where (highestShared m order s t) (isHeard m s t) (Heard m s t) (hearing-decided m (kept .sound) s t) (highest-shared m (kept .sound) order (kept .orders) s t us ut .1)
+
+    pub told-highest : (h : ℕ) → (r ≡ Some h) ↔ Highest m (rankIn order) s t h
+    told-highest h =
+        subst (λ z. (z ≡ Some h) ↔ Highest m (rankIn order) s t h) (sym (told-shared m (kept .exact))) (highest-shared m (kept .sound) order (kept .orders) s t us ut .0 h)

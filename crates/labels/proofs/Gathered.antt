@@ -31,19 +31,10 @@ pub skipped : (a o z : Bool) → o ≡ false → a ≡ (a || (o && z))
 skipped a true z h = absurd (false≢true (sym h))
 skipped a false z h = sym (or-false a)
 
--- a unit with its row is added
-pub with-row : (a o e r : Bool) → o ≡ true → (e || (a || r)) ≡ (a || (o && (e || r)))
-with-row true true true r h = refl
-with-row true true false r h = refl
-with-row false true e r h = refl
-with-row a false e r h = absurd (false≢true h)
-
--- a unit is added
-pub with-one : (a o e : Bool) → o ≡ true → (e || a) ≡ (a || (o && e))
-with-one true true true h = refl
-with-one true true false h = refl
-with-one false true e h = or-false e
-with-one a false e h = absurd (false≢true h)
+-- what adds z
+pub joined : (a o z : Bool) → o ≡ true → (a || z) ≡ (a || (o && z))
+joined a true z h = refl
+joined a false z h = absurd (false≢true h)
 
 swapped : (e h j : Bool) → (e ≡ true → h ≡ j) → (e && h) ≡ (j && e)
 swapped true true true same = refl
@@ -59,5 +50,5 @@ keys-more f k x xs =
     and-or-distrib-right (eqb k x) (listed k xs) (f k) ∙ ap (λ b. b || (listed k xs && f k)) (swapped (eqb k x) (f k) (f x) (λ e. ap f (eqb-true k x e)))
 
 -- picked again from the list they are those that pass the test
-pub picked-keys : (f g t : ℕ → Bool) (xs : List ℕ) → ((k : ℕ) → g k ≡ (listed k xs && f k)) → ((x : ℕ) → f x ≡ t x) → picked g xs ≡ picked t xs
-picked-keys f g t xs e same = picked-same g t xs (λ x o. e x ∙ ap (λ b. b && f x) (passed (listed x xs) (listed-on x xs .1 o)) ∙ same x)
+pub picked-keys : (f g : ℕ → Bool) (xs : List ℕ) → ((k : ℕ) → g k ≡ (listed k xs && f k)) → picked g xs ≡ picked f xs
+picked-keys f g xs e = picked-same g f xs (λ x o. e x ∙ ap (λ b. b && f x) (passed (listed x xs) (listed-on x xs .1 o)))

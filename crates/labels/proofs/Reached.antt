@@ -45,17 +45,17 @@ module _ (ins outs : ℕ → ℕ → Bool) (u y : ℕ) where
             (λ k. or-snd (outs x u && (eqb y x || ins x y)) (covered ins outs xs u y) (ih .1 (w, k, l))) o,
       )
 
-any-of : (e c r : Bool) → T (e || (c || r)) ↔ (T e ⊎ (T r ⊎ T c))
-any-of e c r = (
-  λ t. ⊎-map (λ k. k) (λ k. ⊎-elim inr inl (or-either c r k)) (or-either e (c || r) t),
-  ⊎-elim (or-fst e (c || r)) (λ k. or-snd e (c || r) (⊎-elim (or-snd c r) (or-fst c r) k)),
+any-of : (c e r : Bool) → T (c || (e || r)) ↔ (T e ⊎ (T r ⊎ T c))
+any-of c e r = (
+  λ t. ⊎-elim (λ k. inr (inr k)) (λ k. ⊎-map (λ j. j) inl (or-either e r k)) (or-either c (e || r) t),
+  ⊎-elim (λ k. or-snd c (e || r) (or-fst e r k)) (⊎-elim (λ k. or-snd c (e || r) (or-snd e r k)) (or-fst c (e || r))),
 )
 
--- the unit, its row and what is covered for it, by right tables
+-- what is covered for a unit, the unit and its row, by right tables
 by-tables : (m : Map) → Sound m → (order : List ℕ) → Orders m order → (rows : Rows) → AllRight m order rows → (u v : ℕ) → T (m .unit u)
-    → (eqb v u || (covered (rows .ins) (rows .outs) order u v || rows .ins u v)) ≡ isHeard m u v
+    → (covered (rows .ins) (rows .outs) order u v || (eqb v u || rows .ins u v)) ≡ isHeard m u v
 by-tables m sound order orders rows right u v unit =
-    let any = any-of (eqb v u) (covered (rows .ins) (rows .outs) order u v) (rows .ins u v) in
+    let any = any-of (covered (rows .ins) (rows .outs) order u v) (eqb v u) (rows .ins u v) in
     let reached = reached-by-tables m sound order orders rows right u v unit in
     let decides = hearing-decided m sound u v in
     same-tests _ (isHeard m u v) (λ t. decides .1 (reached .1 (⊎-map (eqb→eq v u) (⊎-map (λ k. k) down) (any .0 t))))
@@ -81,10 +81,10 @@ module _ (m : Map) (order : List ℕ) (l : Labels) (kept : Kept m order l) (u v 
   right : AllRight m order (rows-of l)
   right w o = record { ins = kept .exact .ins w; outs = kept .exact .outs w }
 
-  pub all-hearers : (eqb v u || (covered (holds (l .ins)) (holds (l .outs)) order u v || holds (l .ins) u v)) ≡ isHeard m u v
+  pub all-hearers : (covered (holds (l .ins)) (holds (l .outs)) order u v || (eqb v u || holds (l .ins) u v)) ≡ isHeard m u v
   all-hearers = by-tables m (kept .sound) order (kept .orders) (rows-of l) right u v unit
 
-  pub all-heard : (eqb v u || (covered (holds (l .outs)) (holds (l .ins)) order u v || holds (l .outs) u v)) ≡ isHeard m v u
+  pub all-heard : (covered (holds (l .outs)) (holds (l .ins)) order u v || (eqb v u || holds (l .outs) u v)) ≡ isHeard m v u
   all-heard =
       by-tables (turned m) (turned-sound m (kept .sound)) order (turned-orders m order (kept .orders)) (turnedRows (rows-of l))
       (λ w o. turned-right m (rankIn order) (rows-of l) w (right w o)) u v unit

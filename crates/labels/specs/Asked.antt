@@ -8,7 +8,7 @@ use Rattle.theory.specs.Ranks.{Orders}
 use Rattle.labels.specs.declared.Labels.{Labels}
 use Rattle.labels.specs.Holding.{holds, Exact}
 
--- The labels are kept for the map and its order.
+-- The map is sound, the order is one of its units, and the labels kept are those of the two.
 pub record Kept (m : Map) (order : List ℕ) (l : Labels) : Type 0 where
   pub sound : Sound m
   pub orders : Orders m order

@@ -22,14 +22,14 @@ impl Labels {
     pub fn in_labels(&self, order: &[u8], v: u8, buffer: &mut [u8]) -> Result<usize, ShortBuffer>
         ensures { λ r. ⌜ ((m : Map) → Exact m (now (order .entry)) (now (self .entry)) → Listed (inLabels m (now (order .entry)) v) (now (buffer .entry)) r (now (buffer .exit))) ⌝ }
     {
-        list_members(&keys(&self.ins, order, v), order, buffer)
+        list_keys(&self.ins, order, v, buffer)
     }
 
     // The out-labels of v.
     pub fn out_labels(&self, order: &[u8], v: u8, buffer: &mut [u8]) -> Result<usize, ShortBuffer>
         ensures { λ r. ⌜ ((m : Map) → Exact m (now (order .entry)) (now (self .entry)) → Listed (outLabels m (now (order .entry)) v) (now (buffer .entry)) r (now (buffer .exit))) ⌝ }
     {
-        list_members(&keys(&self.outs, order, v), order, buffer)
+        list_keys(&self.outs, order, v, buffer)
     }
 
     // The units that have u among their in-labels.
@@ -58,6 +58,13 @@ fn keys(table: &Holders, order: &[u8], v: u8) -> UnitSet
         }
     }
     all
+}
+
+// Lists those of the order whose set has v.
+fn list_keys(table: &Holders, order: &[u8], v: u8, buffer: &mut [u8]) -> Result<usize, ShortBuffer>
+    ensures { λ r. ⌜ Listed (picked (λ u. holds (now (table .entry)) u v) (now (order .entry))) (now (buffer .entry)) r (now (buffer .exit)) ⌝ }
+{
+    list_members(&keys(table, order, v), order, buffer)
 }
 
 // How many of the order are in the set.

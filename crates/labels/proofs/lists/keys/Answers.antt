@@ -1,14 +1,13 @@
 -- A unit of the order is added where its set has v.
 use mathlib.Core.Path.{refl, sym, ap, _∙_}
-use mathlib.Core.Bool.{Bool, _&&_}
-use mathlib.Core.List.{List}
+use mathlib.Core.Bool.{_&&_, or-comm}
 use Prim.Native.Nat.{ℕ}
 use lib.Dec.{eqb}
 use lib.ListN.{getD}
 use Rattle.units.specs.Has.{has}
 use Rattle.theory.specs.Maps.{listed}
 use Rattle.labels.specs.Holding.{holds}
-use Rattle.labels.proofs.Gathered.{gathered-more, gathered-end, skipped, with-one, keys-more}
+use Rattle.labels.proofs.Gathered.{gathered-more, gathered-end, skipped, joined, keys-more}
 use Rattle.labels.proofs.lists.keys.Needs as need
 use Rattle.labels.proofs.lists.keys.Needs.{then-holds, else-holds}
 
@@ -19,7 +18,7 @@ loop-u-again c k =
     let u = getD order (c .loop-u .u-index) 0 in
     let old = has (c .loop-u .all) k in
     gathered-more (λ xs. listed k xs && f k) (λ x. f x && eqb k x) refl (keys-more f k) order (c .loop-u .u-index) old _ (c .loop-u .inv k) _ (elim (c .if-holds .came) [
-      | then-holds w ↦ ap (λ s. has s k) (w .all-is) ∙ w .insert .ensures k ∙ with-one old (f u) (eqb k u) (sym (w .if-holds .ensures tt))
+      | then-holds w ↦ ap (λ s. has s k) (w .all-is) ∙ w .insert .ensures k ∙ or-comm (eqb k u) old ∙ joined old (f u) (eqb k u) (sym (w .if-holds .ensures tt))
       | else-holds w ↦ ap (λ s. has s k) (w .all-is) ∙ skipped old (f u) (eqb k u) (sym (w .if-holds .ensures tt))
     ]) (c .loop-u-test .taken)
 

@@ -1,4 +1,4 @@
--- The units of the order that have v among their holders are its labels.
+-- Picked from the order by the set that was gathered, they are those whose own set has v.
 use mathlib.Core.Path.{subst}
 use mathlib.Core.List.{List}
 use Prim.Native.Nat.{ℕ}
@@ -6,9 +6,9 @@ use Rattle.units.specs.Has.{has}
 use Rattle.labels.specs.Holding.{holds}
 use Rattle.labels.specs.Listed.{Listed}
 use Rattle.labels.proofs.Gathered.{picked-keys}
-use Rattle.labels.proofs.Labels.out_labels.Needs as need
+use Rattle.labels.proofs.lists.list_keys.Needs as need
 
 pub returns : need.returns
-returns c m exact =
+returns c =
     subst (λ (xs : List ℕ). Listed xs (c .args .buffer .now) (c .list-members .result) (c .list-members .last .buffer))
-    (picked-keys (λ u. holds (c .args .self .now .outs) u (c .args .v)) (has (c .keys .result)) _ (c .args .order .now) (c .keys .ensures) (λ u. exact .outs u (c .args .v))) (c .list-members .ensures)
+    (picked-keys (λ u. holds (c .args .table .now) u (c .args .v)) (has (c .keys .result)) (c .args .order .now) (c .keys .ensures)) (c .list-members .ensures)
