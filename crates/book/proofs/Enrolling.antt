@@ -9,7 +9,7 @@ use lib.Dec.{T, eqb, eqb-refl}
 use lib.ListN.{length}
 use Rattle.std.specs.declared.option.Option.the-variants.{None}
 use Rattle.std.specs.declared.result.Result.the-variants.{Ok}
-use Rattle.std.proofs.shelf.Tests.{or-parts, not-false, both-ways, eqb-false, ltb-false}
+use Rattle.std.proofs.shelf.Tests.{or-parts, both-ways, eqb-false, ltb-false, false≢true}
 use Rattle.units.specs.declared.UnitSet.{UnitSet}
 use Rattle.units.specs.Has.{has}
 use Rattle.theory.specs.Maps.{Map, listed, enrolled}
@@ -24,6 +24,7 @@ use Rattle.theory.proofs.Warshall.{heard-complete}
 use Rattle.theory.proofs.Enrols.{changes-sound, enrol-orders, enrol-area, enrol-frame}
 use Rattle.theory.proofs.Rings.{rings-kept-out}
 use Rattle.labels.specs.declared.Labels.{Labels}
+use Rattle.labels.specs.Asked.{Kept}
 use Rattle.mending.specs.Mended.{Mended}
 use Rattle.plain.specs.Plain.{map-of, hears}
 use Rattle.plain.specs.Pages.{some, doubled}
@@ -32,12 +33,49 @@ use Rattle.plain.proofs.Some.{some-on, some-append}
 use Rattle.book.specs.Views.{plain-by, Agrees}
 use Rattle.book.specs.Answers.{Applied}
 use Rattle.book.proofs.Agree.{Keeps, stored-by}
-use Rattle.book.proofs.Changing.{AllAbsent, all-absent, changed}
+use Rattle.book.proofs.Changing.{AllAbsent, all-absent, asked-at, changed}
 use Rattle.book.proofs.Pairing.{in-order}
 
 -- a test that passes nowhere on a list passes at none of its numbers
 never : (f : ℕ → Bool) (xs : List ℕ) → some f xs ≡ false → (x : ℕ) → On x xs → T (f x) → ⊥
 never f xs e x o t = both-ways (some f xs) e (passed (some f xs) (some-on f xs .1 (x, o, t)))
+
+-- the units of both lists stand
+stands-in : (m : Map) (order : List ℕ) (l : Labels) → Keeps m order l → (xs : List ℕ) → some (λ u. not (listed u order)) xs ≡ false → (u : ℕ) → On u xs → T (m .unit u)
+stands-in m order l keeps xs e u o = go (listed u order) refl
+  where
+    go : (b : Bool) → listed u order ≡ b → T (m .unit u)
+    go true is = in-order m order (keeps .orders) u is
+    go false is = absurd (never (λ w. not (listed w order)) xs e u o (subst (λ (b : Bool). T (not b)) (sym is) tt))
+
+-- some source is among what hears a listener exactly when it hears one
+same-some : (f g : ℕ → Bool) (xs : List ℕ) → ((x : ℕ) → f x ≡ g x) → some f xs ≡ some g xs
+same-some f g xs e = ap (λ (h : ℕ → Bool). some h xs) (λ i x. e x i)
+
+pub ring-told : (m : Map) (order : List ℕ) (l : Labels) → Keeps m order l → (sources listeners : List ℕ) → some (λ u. not (listed u order)) (sources ++ listeners) ≡ false →
+    (hearers : UnitSet) (slice : List ℕ) → slice ≡ order →
+    ((n : Map) → Kept n slice l → ((u : ℕ) → On u listeners → T (n .unit u)) → (v : ℕ) → has hearers v ≡ some (λ t. isHeard n t v) listeners) →
+    (answer : Bool) → answer ≡ some (has hearers) sources → answer ≡ some (λ s. some (λ t. hears (plain-by m order) s t) listeners) sources
+ring-told m order l keeps sources listeners e hearers slice is all answer a =
+    let parts = or-parts _ _ (sym (some-append (λ u. not (listed u order)) sources listeners) ∙ e) in
+    let set = all m (asked-at m order slice l keeps is) (stands-in m order l keeps listeners (parts .1)) in
+    a ∙ same-some (has hearers) (λ s. some (λ t. hears (plain-by m order) s t) listeners) sources
+    (λ s. set s ∙ same-some (λ t. isHeard m t s) (λ t. hears (plain-by m order) s t) listeners (λ t. ap (λ (n : Map). isHeard n t s) (stored-by m order (keeps .orders))))
+
+-- both lists are known exactly when each is
+pub known-then : (f : ℕ → Bool) (xs ys : List ℕ) → not (some f xs) ≡ true → not (some f ys) ≡ not (some f (xs ++ ys))
+known-then f xs ys e = sym (ap not (some-append f xs ys) ∙ go (some f xs) (some f ys) e)
+  where
+    go : (a b : Bool) → not a ≡ true → not (a || b) ≡ not b
+    go true b n = absurd (false≢true n)
+    go false b n = refl
+
+pub known-else : (f : ℕ → Bool) (xs ys : List ℕ) → not (some f xs) ≡ false → not (some f xs) ≡ not (some f (xs ++ ys))
+known-else f xs ys e = sym (ap not (some-append f xs ys) ∙ go (some f xs) (some f ys) e)
+  where
+    go : (a b : Bool) → not a ≡ false → not (a || b) ≡ not a
+    go true b n = refl
+    go false b n = absurd (false≢true (sym n))
 
 module _ (capacity : ℕ) (m : Map) (order : List ℕ) (l : Labels) (keeps : Keeps m order l) (v k : ℕ) (small : v ≤ 255) (sources listeners : List ℕ)
     (absent : first-cause (enrol-checks capacity (plain-by m order) v k sources listeners) ≡ None) where
@@ -50,21 +88,14 @@ module _ (capacity : ℕ) (m : Map) (order : List ℕ) (l : Labels) (keeps : Kee
   parts : (some (λ u. not (listed u order)) sources ≡ false) × (some (λ u. not (listed u order)) listeners ≡ false)
   parts = or-parts _ _ (sym (some-append (λ u. not (listed u order)) sources listeners) ∙ all .1 .1 .1 .0)
 
-  stands : (xs : List ℕ) → some (λ u. not (listed u order)) xs ≡ false → (u : ℕ) → On u xs → T (m .unit u)
-  stands xs e u o = go (listed u order) refl
-    where
-      go : (b : Bool) → listed u order ≡ b → T (m .unit u)
-      go true is = in-order m order (keeps .orders) u is
-      go false is = absurd (never (λ w. not (listed w order)) xs e u o (subst (λ (b : Bool). T (not b)) (sym is) tt))
-
   -- what a granted enrolment knows
   pub new : New m v sources listeners
   new = record {
     low = let z = eqb-false v 0 (all .0) in omega arith;
     high = small;
     fresh = not-there;
-    from = stands sources (parts .0);
-    to = stands listeners (parts .1);
+    from = stands-in m order l keeps sources (parts .0);
+    to = stands-in m order l keeps listeners (parts .1);
   }
 
   pub rank-low : 1 ≤ k

@@ -1,8 +1,8 @@
 // The book: a store, the ranks of its units and the labels it keeps, and the calls that are put to them. Each call means
 // what the plain book says; it is refused before anything is changed.
 ghost use mathlib.Core.Path.{_≡_};
-ghost use mathlib.Core.Bool.{true};
-ghost use mathlib.Core.List.{[], _∷_};
+ghost use mathlib.Core.Bool.{true, false, not, _||_};
+ghost use mathlib.Core.List.{[], _∷_, _++_};
 ghost use lib.ListN.{length};
 ghost use Rattle.std.specs.declared.result.Result.the-variants.{Err};
 ghost use Rattle.theory.specs.Ranks.{Orders};
@@ -10,7 +10,8 @@ ghost use Rattle.ranks.specs.Orders.{order-of};
 ghost use Rattle.mending.specs.Mended.{Mended};
 ghost use Rattle.theory.specs.Lists.{inLabels, outLabels, inHolders, outHolders};
 ghost use Rattle.plain.specs.Plain.{map-of, empty, hears};
-ghost use Rattle.plain.specs.Requests.{Hear, Pair, Unpair, Drop, Rank, rank-checks, pair-checks, unpair-checks, InLabels, OutLabels, InHolders, OutHolders, first-cause, unknown, stands, verdict};
+ghost use Rattle.plain.specs.Pages.{some, doubled};
+ghost use Rattle.plain.specs.Requests.{Hear, Pair, Unpair, Drop, Rank, enrol-checks, partners, rank-checks, pair-checks, unpair-checks, InLabels, OutLabels, InHolders, OutHolders, first-cause, unknown, stands, verdict};
 ghost use Rattle.book.specs.Views.{plain-of, Whole};
 ghost use Rattle.book.specs.Answers.{answered, Lists, Applied, fault-of};
 use grid::Matrix;
@@ -21,6 +22,10 @@ use labels::ShortBuffer;
 use maps::Map;
 use maps::Store;
 use mending::mend;
+use partners::all_known;
+use partners::any_doubled;
+use partners::any_member;
+use partners::hearers_of;
 use plain::BookFault;
 use plain::BookFromStore;
 use ranks::Ranks;
@@ -233,6 +238,58 @@ impl<S: Store> Book<S> {
         self.ranks.move_to(k - 1, v);
         Ok(self.mend_labels(&ups, &downs))
     }
+
+    // Whether all units of both lists stand.
+    fn stand_both(&self, sources: &[u8], listeners: &[u8]) -> bool
+        ensures { λ r. ⌜ r ≡ not (some (λ u. not (stands (plain-of (S·Map .meaning) (now (self .entry))) u)) (now (sources .entry) ++ now (listeners .entry))) ⌝ }
+    {
+        all_known(&self.ranks, sources) && all_known(&self.ranks, listeners)
+    }
+
+    // Whether some source hears some listener.
+    fn makes_ring(&self, sources: &[u8], listeners: &[u8]) -> bool
+        requires whole { ⌜ Whole (S·Map .meaning) (now self) ⌝ }
+        requires stand { ⌜ some (λ u. not (stands (plain-of (S·Map .meaning) (now self)) u)) (now sources ++ now listeners) ≡ false ⌝ }
+        ensures { λ r. ⌜ r ≡ some (λ s. some (λ t. hears (plain-of (S·Map .meaning) (now (self .entry))) s t) (now (listeners .entry))) (now (sources .entry)) ⌝ }
+    {
+        let hearers = hearers_of(&self.labels, self.ranks.as_slice(), listeners);
+        any_member(&hearers, sources)
+    }
+
+    // The first cause for which a unit cannot have the partners.
+    fn check_partners(&self, sources: &[u8], listeners: &[u8]) -> Result<(), BookFault>
+        requires { ⌜ Whole (S·Map .meaning) (now self) ⌝ }
+        ensures { λ r. ⌜ r ≡ answered (first-cause (partners (S·Store .room) (plain-of (S·Map .meaning) (now (self .entry))) (now (sources .entry)) (now (listeners .entry)))) tt ⌝ }
+    {
+        if !self.stand_both(sources, listeners) {
+            return Err(BookFault::Unknown);
+        }
+        if double_in_one(sources, listeners) {
+            return Err(BookFault::Doubled);
+        }
+        if self.makes_ring(sources, listeners) {
+            return Err(BookFault::Ring);
+        }
+        self.store.has_room(sources.len() + listeners.len())?;
+        Ok(())
+    }
+
+    // The first cause for which v is not enrolled at the rank k with the partners.
+    fn check_enrol(&self, v: u8, k: u8, sources: &[u8], listeners: &[u8]) -> Result<(), BookFault>
+        requires { ⌜ Whole (S·Map .meaning) (now self) ⌝ }
+        ensures { λ r. ⌜ r ≡ answered (first-cause (enrol-checks (S·Store .room) (plain-of (S·Map .meaning) (now (self .entry))) v k (now (sources .entry)) (now (listeners .entry)))) tt ⌝ }
+    {
+        if v == 0 {
+            return Err(BookFault::Zero);
+        }
+        if self.ranks.holds(v) {
+            return Err(BookFault::Standing);
+        }
+        if k == 0 || u16::from(k) > u16::from(self.ranks.len()) + 1 {
+            return Err(BookFault::RankOutside);
+        }
+        self.check_partners(sources, listeners)
+    }
 }
 
 // The fault of the labels, as the book's.
@@ -243,4 +300,11 @@ fn fitted(answer: Result<usize, ShortBuffer>) -> Result<usize, BookFault>
         Ok(n) => Ok(n),
         Err(_) => Err(BookFault::ShortBuffer),
     }
+}
+
+// Whether a unit stands twice in one of the lists.
+fn double_in_one(sources: &[u8], listeners: &[u8]) -> bool
+    ensures { λ r. ⌜ r ≡ (doubled (now (sources .entry)) || doubled (now (listeners .entry))) ⌝ }
+{
+    any_doubled(sources) || any_doubled(listeners)
 }
