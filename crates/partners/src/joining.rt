@@ -14,7 +14,12 @@ use maps::Store;
 use maps::StoreFault;
 
 // Puts v into the store, joins each of its sources to it and it to each of its listeners. Never refused.
-pub fn attach<S: Store>(store: &mut S, v: u8, sources: &[u8], listeners: &[u8]) -> Result<(), StoreFault>
+pub fn attach<S: Store>(
+    store: &mut S,
+    v: u8,
+    sources: &[u8],
+    listeners: &[u8],
+) -> Result<(), StoreFault>
     requires new { ⌜ New (S·Map .meaning (now store)) v (now sources) (now listeners) ⌝ }
     requires once { ⌜ (doubled (now sources) ≡ false) × (doubled (now listeners) ≡ false) ⌝ }
     requires fits { ⌜ pair-count (S·Map .meaning (now store)) + length (now sources) + length (now listeners) ≤ S·Store .room ⌝ }
