@@ -15,6 +15,10 @@ use labels::Labels;
 use ranks::Ranks;
 use units::UnitSet;
 
+mod joining;
+
+pub use joining::attach;
+
 // Whether every unit of the list has a rank.
 pub fn all_known(ranks: &Ranks, units: &[u8]) -> bool
     ensures { λ r. ⌜ r ≡ not (some (λ u. not (listed u (order-of (now (ranks .entry))))) (now (units .entry))) ⌝ }

@@ -99,7 +99,7 @@ count-remove p q u small e there =
     let moved = sum-change (λ k. one (p k)) (λ k. one (q k)) 256 u small (λ k d. ap one (sym (e k ∙ ap (λ t. not t && p k) (ne-eqb k u d)))) in
     omega arith
 
-other-pair : (x y a b : ℕ) → (x ≡ a → y ≡ b → ⊥) → (eqb x a && eqb y b) ≡ false
+pub other-pair : (x y a b : ℕ) → (x ≡ a → y ≡ b → ⊥) → (eqb x a && eqb y b) ≡ false
 other-pair x y a b d = elim (cases-eq x a) [
   | inl e ↦ and-right (eqb x a) (eqb y b) (ne-eqb y b (d e))
   | inr n ↦ and-left (eqb x a) (eqb y b) (ne-eqb x a n)

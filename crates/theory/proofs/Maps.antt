@@ -1,15 +1,26 @@
 -- Maps that answer alike are one map, and what the layers keep.
 use mathlib.Core.Path.{_≡_, sym}
+use mathlib.Core.Logic.{⊎-elim}
 use mathlib.Core.Bool.{Bool, not, _&&_}
 use mathlib.Core.List.{List}
-use Prim.Native.Nat.{ℕ}
-use lib.Dec.{T}
-use Rattle.theory.specs.Maps.{Map, Sound, turned, hidden}
+use Prim.Native.Nat.{ℕ, _≤_}
+use native.Mathlib.Omega.{arith}
+use lib.Dec.{T, eqb, eqb→eq}
+use Rattle.theory.specs.Maps.{Map, Sound, with-unit, turned, hidden}
 use Rattle.theory.specs.Ranks.{Orders}
-use Rattle.theory.proofs.Tests.{and-fst, and-snd, and-both}
+use Rattle.theory.proofs.Tests.{and-fst, and-snd, and-both, or-either, or-snd}
 
 pub same-map : (m n : Map) → ((k : ℕ) → m .unit k ≡ n .unit k) → ((x y : ℕ) → m .pair x y ≡ n .pair x y) → m ≡ n
 same-map m n units pairings = λ i. record { unit = λ k. units k i; pair = λ x y. pairings x y i }
+
+pub with-unit-sound : (m : Map) → Sound m → (u : ℕ) → 1 ≤ u → u ≤ 255 → Sound (with-unit u m)
+with-unit-sound m s u low high = record {
+  low = λ k t. ⊎-elim (λ e. let same = eqb→eq k u e in omega arith) (s .low k) (or-either (eqb k u) (m .unit k) t);
+  high = λ k t. ⊎-elim (λ e. let same = eqb→eq k u e in omega arith) (s .high k) (or-either (eqb k u) (m .unit k) t);
+  from = λ a b p. or-snd (eqb a u) (m .unit a) (s .from a b p);
+  to = λ a b p. or-snd (eqb b u) (m .unit b) (s .to a b p);
+  apart = s .apart;
+}
 
 pub turned-sound : (m : Map) → Sound m → Sound (turned m)
 turned-sound m s = record {

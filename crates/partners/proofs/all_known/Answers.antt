@@ -1,8 +1,6 @@
 -- A unit of the list is passed by where it has a rank.
-use mathlib.Core.Path.{refl, sym, ap, _∙_}
-use mathlib.Core.Bool.{Bool, not}
-use mathlib.Core.List.{List}
-use Prim.Native.Nat.{ℕ}
+use mathlib.Core.Path.{sym, ap, _∙_}
+use mathlib.Core.Bool.{not}
 use Rattle.theory.specs.Maps.{listed}
 use Rattle.ranks.specs.Orders.{order-of}
 use Rattle.partners.proofs.Found.{found, passed-by, none-found}

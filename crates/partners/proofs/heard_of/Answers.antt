@@ -1,7 +1,6 @@
 -- A unit of the list adds what it hears.
-use mathlib.Core.Path.{refl, sym, ap, _∙_}
+use mathlib.Core.Path.{refl, ap, _∙_}
 use mathlib.Core.Bool.{_||_}
-use lib.ListN.{getD}
 use Rattle.units.specs.Has.{has}
 use Rattle.theory.specs.Hearing.{isHeard}
 use Rattle.theory.proofs.Distinct.{on-at}
