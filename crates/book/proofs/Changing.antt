@@ -86,12 +86,11 @@ module _ (capacity : ℕ) (m : Map) (order : List ℕ) (l : Labels) (keeps : Kee
         Applied capacity (plain-by m order) r (Ok count) (plain-by m′ after′) × Agrees m′ after′ l′
     changed ups downs l′ count m′ after′ mended a d e f =
         let done = mended m order (keeps .sound) (keeps .orders) (keeps .exact)
-          (wider m (rankIn order) n (rankIn after) A D (λ u. T (has ups u)) (λ w. T (has downs w)) frame a d) in
+        (wider m (rankIn order) n (rankIn after) A D (λ u. T (has ups u)) (λ w. T (has downs w)) frame a d) in
         let same : plain-by m′ after′ ≡ granted (plain-by m order) r = plain-at m′ n after′ after e f ∙ sym is in
         let number : count ≡ alters (plain-by m order) (granted (plain-by m order) r) =
-          done .1 ∙ ap (λ (k : Map). labels-changed k order n after) (stored-by m order (keeps .orders))
-          ∙ ap (λ (k : Map). labels-changed (map-of (plain-by m order)) order k after) (stored-by n after orders) ∙ ap (alters (plain-by m order)) (sym is) in
-        (
+        done .1 ∙ ap (λ (k : Map). labels-changed k order n after) (stored-by m order (keeps .orders))
+        ∙ ap (λ (k : Map). labels-changed (map-of (plain-by m order)) order k after) (stored-by n after orders) ∙ ap (alters (plain-by m order)) (sym is) in (
           record {
             told = ap (λ (k : ℕ). Ok k) number ∙ ap (λ w. answered w (alters (plain-by m order) (granted (plain-by m order) r))) (sym v);
             left = same ∙ ap (λ w. unless w (plain-by m order) (granted (plain-by m order) r)) (sym v);

@@ -98,11 +98,14 @@ module _ (capacity : ℕ) (m : Map) (order : List ℕ) (l : Labels) (keeps : Kee
     to = stands-in m order l keeps listeners (parts .1);
   }
 
+  pub absent-unit : listed v order ≡ false
+  absent-unit = all .1 .0
+
   pub rank-low : 1 ≤ k
   rank-low = let z = eqb-false k 0 (or-parts (eqb k 0) _ (all .1 .1 .0) .0) in omega arith
 
-  pub rank-high : k ≤ length order + 1
-  rank-high = ltb-false (length order + 1) k (or-parts (eqb k 0) _ (all .1 .1 .0) .1)
+  pub rank-place : k - 1 ≤ length order
+  rank-place = let z = ltb-false (length order + 1) k (or-parts (eqb k 0) _ (all .1 .1 .0) .1) in omega arith
 
   pub sources-once : doubled sources ≡ false
   sources-once = or-parts (doubled sources) (doubled listeners) (all .1 .1 .1 .1 .0) .0
@@ -144,3 +147,7 @@ module _ (capacity : ℕ) (m : Map) (order : List ℕ) (l : Labels) (keeps : Kee
       in-downs : (u : ℕ) → (u ≡ v) ⊎ ((t : ℕ) × On t listeners × Heard m t u) → T (eqb u v || some (λ t. isHeard m t u) listeners)
       in-downs u = ⊎-elim (λ e. or-fst (eqb u v) _ (subst (λ (z : ℕ). T (eqb u z)) e (eqb-refl u)))
           (λ t. or-snd (eqb u v) _ (some-on (λ x. isHeard m x u) listeners .1 (t .0, t .1, heard-complete m (keeps .sound) (t .0) u (t .2))))
+
+-- a set with one member more
+pub with-own : (v : ℕ) (old new : UnitSet) (f : ℕ → Bool) → ((u : ℕ) → has new u ≡ (eqb u v || has old u)) → ((u : ℕ) → has old u ≡ f u) → (u : ℕ) → has new u ≡ (eqb u v || f u)
+with-own v old new f e o u = e u ∙ ap (λ (b : Bool). eqb u v || b) (o u)

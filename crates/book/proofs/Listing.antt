@@ -47,7 +47,7 @@ module _ (capacity : ℕ) (p : Plain) (r : Request) (xs before : List ℕ) (u : 
   list-refused cause answer e by =
       let q = err-from-errBy answer by in
       let v : verdict capacity p r ≡ Some cause =
-        ap first-cause is ∙ cause-first (unknown p (u ∷ []) ∷ []) ((fault.ShortBuffer, ltb (length before) (length xs)) ∷ []) cause (the-cause (first-cause (unknown p (u ∷ []) ∷ [])) (tt {0}) cause e) in
+      ap first-cause is ∙ cause-first (unknown p (u ∷ []) ∷ []) ((fault.ShortBuffer, ltb (length before) (length xs)) ∷ []) cause (the-cause (first-cause (unknown p (u ∷ []) ∷ [])) (tt {0}) cause e) in
       record {
         told = q .1 ∙ ap (λ z. Err z) (q .2) ∙ ap (λ w. answered w (length xs)) (sym v);
         left = ap (λ w. filled w xs before) (sym v);

@@ -11,7 +11,7 @@ ghost use Rattle.mending.specs.Mended.{Mended};
 ghost use Rattle.theory.specs.Lists.{inLabels, outLabels, inHolders, outHolders};
 ghost use Rattle.plain.specs.Plain.{map-of, empty, hears};
 ghost use Rattle.plain.specs.Pages.{some, doubled};
-ghost use Rattle.plain.specs.Requests.{Hear, Pair, Unpair, Drop, Rank, enrol-checks, partners, rank-checks, pair-checks, unpair-checks, InLabels, OutLabels, InHolders, OutHolders, first-cause, unknown, stands, verdict};
+ghost use Rattle.plain.specs.Requests.{Hear, Enrol, Pair, Unpair, Drop, Rank, enrol-checks, partners, rank-checks, pair-checks, unpair-checks, InLabels, OutLabels, InHolders, OutHolders, first-cause, unknown, stands, verdict};
 ghost use Rattle.book.specs.Views.{plain-of, Whole};
 ghost use Rattle.book.specs.Answers.{answered, Lists, Applied, fault-of};
 use grid::Matrix;
@@ -25,6 +25,8 @@ use mending::mend;
 use partners::all_known;
 use partners::any_doubled;
 use partners::any_member;
+use partners::attach;
+use partners::heard_of;
 use partners::hearers_of;
 use plain::BookFault;
 use plain::BookFromStore;
@@ -289,6 +291,29 @@ impl<S: Store> Book<S> {
             return Err(BookFault::RankOutside);
         }
         self.check_partners(sources, listeners)
+    }
+
+    // Enrols v at the rank k: units from there on move down, each source is paired to v and v to each listener.
+    pub fn enrol(
+        &mut self,
+        v: u8,
+        k: u8,
+        sources: &[u8],
+        listeners: &[u8],
+    ) -> Result<u32, BookFault>
+        requires { ⌜ Whole (S·Map .meaning) (now self) ⌝ }
+        ensures applied { λ r. ⌜ Applied (S·Store .room) (plain-of (S·Map .meaning) (now (self .entry))) (Enrol v k (now (sources .entry)) (now (listeners .entry))) r (plain-of (S·Map .meaning) (now (self .exit))) ⌝ }
+        ensures whole { λ _. ⌜ Whole (S·Map .meaning) (now (self .exit)) ⌝ }
+        ensures kept { λ r. ⌜ ((cause : BookFault) → r ≡ Err cause → now (self .exit) ≡ now (self .entry)) ⌝ }
+    {
+        self.check_enrol(v, k, sources, listeners)?;
+        let mut ups = heard_of(&self.labels, self.ranks.as_slice(), sources);
+        let mut downs = hearers_of(&self.labels, self.ranks.as_slice(), listeners);
+        ups.insert(v);
+        downs.insert(v);
+        attach(&mut self.store, v, sources, listeners)?;
+        self.ranks.insert(k - 1, v);
+        Ok(self.mend_labels(&ups, &downs))
     }
 }
 

@@ -36,7 +36,7 @@ returns g c =
     let downs = c .hearers-downs .ensures m (asked-at m order _ (c .args .self .now .labels) k (c .as-slice-2 .ensures)) (known .1) in
     let left = c .in-Continue-join .ensures tt .1 in
     let done = pair-done (g .S·Store .room) m order (c .args .self .now .labels) k (c .args .a) (c .args .b) passed (c .heard-ups .result) (c .hearers-downs .result) ups downs
-      (c .mend-labels .last .self .labels) (c .mend-labels .result) (g .S·Map .meaning (c .mend-labels .last .self .store)) (order-of (c .mend-labels .last .self .ranks))
-      (mended-at _ (with-pair (c .args .a) (c .args .b) m) _ order _ _ _ _ _ left refl (c .mend-labels .ensures .mended))
-      (ap (g .S·Map .meaning) (c .mend-labels .ensures .store) ∙ left) (ap order-of (c .mend-labels .ensures .ranks)) in
+    (c .mend-labels .last .self .labels) (c .mend-labels .result) (g .S·Map .meaning (c .mend-labels .last .self .store)) (order-of (c .mend-labels .last .self .ranks))
+    (mended-at _ (with-pair (c .args .a) (c .args .b) m) _ order _ _ _ _ _ left refl (c .mend-labels .ensures .mended))
+    (ap (g .S·Map .meaning) (c .mend-labels .ensures .store) ∙ left) (ap order-of (c .mend-labels .ensures .ranks)) in
     record { applied = done .0; whole = done .1; kept = λ cause e. not-refused (c .mend-labels .result) cause e }

@@ -39,7 +39,7 @@ returns g c =
     let ups = c .heard-ups .ensures m (asked-at m order _ (c .args .self .now .labels) k (c .as-slice .ensures)) unit in
     let downs = c .hearers-downs .ensures m (asked-at m order _ (c .args .self .now .labels) k (c .as-slice-2 .ensures)) unit in
     let done = rank-done m order (c .args .self .now .labels) k (c .args .v) (g .S·Store .room) (c .args .k) passed (c .heard-ups .result) (c .hearers-downs .result) ups downs
-      (c .mend-labels .last .self .labels) (c .mend-labels .result) (g .S·Map .meaning (c .mend-labels .last .self .store)) (order-of (c .mend-labels .last .self .ranks))
-      (mended-at _ (m) _ (moved (c .args .k - 1) (c .args .v) order) _ _ _ _ _ refl (c .move-to .ensures) (c .mend-labels .ensures .mended))
-      (ap (g .S·Map .meaning) (c .mend-labels .ensures .store)) (ap order-of (c .mend-labels .ensures .ranks) ∙ c .move-to .ensures) in
+    (c .mend-labels .last .self .labels) (c .mend-labels .result) (g .S·Map .meaning (c .mend-labels .last .self .store)) (order-of (c .mend-labels .last .self .ranks))
+    (mended-at _ (m) _ (moved (c .args .k - 1) (c .args .v) order) _ _ _ _ _ refl (c .move-to .ensures) (c .mend-labels .ensures .mended))
+    (ap (g .S·Map .meaning) (c .mend-labels .ensures .store)) (ap order-of (c .mend-labels .ensures .ranks) ∙ c .move-to .ensures) in
     record { applied = done .0; whole = done .1; kept = λ cause e. not-refused (c .mend-labels .result) cause e }
