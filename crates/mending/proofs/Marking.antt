@@ -77,19 +77,17 @@ marking-all order once rows k i here e f marking = record { every = λ x ne. eve
 
 -- what a walk from u finds past such a set, without u, is the in-row of u
 pub row-found : (m : Map) → Sound m → (order : List ℕ) → Orders m order → (rows : Rows) (u : ℕ) (f : ℕ → Bool) → MarksBy order rows u f →
-    (n : Map) → n ≡ hidden f m → (heard row : ℕ → Bool) → ((v : ℕ) → heard v ≡ isHeard n u v) → ((v : ℕ) → row v ≡ (not (eqb v u) && heard v)) →
-    NewRow m order rows u row
-row-found m sound order orders rows u f marks n e heard row walked left right v =
-    decided-by m sound (rankIn order) u v (row v) (λ t. next .1 (there (subst T (left v ∙ ap (λ (b : Bool). not (eqb v u) && b) (walked v ∙ same)) t)), λ l. back (next .0 l))
+    (row : ℕ → Bool) → ((v : ℕ) → row v ≡ (not (eqb v u) && isHeard (hidden f m) u v)) → NewRow m order rows u row
+row-found m sound order orders rows u f marks row walked right v = decided-by m sound (rankIn order) u v (row v) (λ t. next .1 (there (subst T (walked v) t)), λ l. back (next .0 l))
   where
-    same : isHeard n u v ≡ isHeard (hidden f m) u v
-    same = ap (λ (z : Map). isHeard z u v) e
-
     next : InLabel m (rankIn order) u v ↔ ((u ≢ v) × Heard (hidden f m) u v)
     next = next-row m sound order orders rows u right f marks v
 
     there : T (not (eqb v u) && isHeard (hidden f m) u v) → (u ≢ v) × Heard (hidden f m) u v
-    there t = (λ k. differ v u (and-fst (not (eqb v u)) _ t) (sym k), heard-sound (hidden f m) (hidden-sound f m sound) u v (and-snd (not (eqb v u)) (isHeard (hidden f m) u v) t))
+    there t = (
+      λ k. differ v u (and-fst (not (eqb v u)) _ t) (sym k),
+      heard-sound (hidden f m) (hidden-sound f m sound) u v (and-snd (not (eqb v u)) (isHeard (hidden f m) u v) t),
+    )
 
     back : (u ≢ v) × Heard (hidden f m) u v → T (row v)
-    back (ne, h) = subst T (sym (left v ∙ ap (λ (b : Bool). not (eqb v u) && b) (walked v ∙ same))) (and-both (not (eqb v u)) _ (differs v u (λ k. ne (sym k))) (heard-complete (hidden f m) (hidden-sound f m sound) u v h))
+    back (ne, h) = subst T (sym (walked v)) (and-both (not (eqb v u)) _ (differs v u (λ k. ne (sym k))) (heard-complete (hidden f m) (hidden-sound f m sound) u v h))

@@ -1,11 +1,13 @@
 // The kept labels made from a map and its order of ranks, and mended after any change of the two: only the sets of the
 // units that the change can touch are found again, each by a walk, and the labels that come and go are counted.
 ghost use mathlib.Core.Path.{_≡_};
-ghost use mathlib.Core.Bool.{Bool, cond};
+ghost use mathlib.Core.Bool.{false, not, cond, _&&_, _||_};
 ghost use Prim.Native.Nat.{ℕ, _+_, _<_, _≤_};
 ghost use lib.Dec.{eqb};
 ghost use lib.ListN.{length, getD};
 ghost use Rattle.units.specs.Has.{has};
+ghost use Rattle.theory.specs.Maps.{hidden};
+ghost use Rattle.theory.specs.Hearing.{isHeard};
 ghost use Rattle.theory.specs.Ranks.{Orders, Once};
 ghost use Rattle.theory.specs.Rows.{MarksBy};
 ghost use Rattle.labels.specs.Holding.{holds, Exact};
@@ -33,22 +35,39 @@ fn replace(table: &mut Holders, u: u8, set: UnitSet) -> u32
     u32::from(old.difference_len(&set))
 }
 
-// What the first k units of the order cover for the next, and those k units.
+// Marks w besides and, where w has u among its out-holders, the in-holders of w: these hear u through w.
+fn mark(marks: &UnitSet, w: u8, ins: &Holders, outs: &Holders, u: u8) -> UnitSet
+    ensures { λ r. ⌜ ((x : ℕ) → has r x ≡ ((eqb x w || has (now (marks .entry)) x) || (holds (now (outs .entry)) w u && holds (now (ins .entry)) w x))) ⌝ }
+{
+    let mut all = *marks;
+    all.insert(w);
+    if outs.holds(w, u) {
+        return all.union(&ins.of(w));
+    }
+    all
+}
+
+// The first k units of the order, and what they cover for the next.
 fn covered(ins: &Holders, outs: &Holders, order: &[u8], k: usize) -> UnitSet
     requires place { ⌜ k < length (now order) ⌝ }
     requires once { ⌜ Once (now order) ⌝ }
     ensures { λ r. ⌜ MarksBy (now (order .entry)) (rows (now (ins .entry)) (now (outs .entry))) (getD (now (order .entry)) k 0) (has r) ⌝ }
 {
     let u = order[k];
-    let mut all = UnitSet::empty();
+    let mut marks = UnitSet::empty();
     for i in 0..k {
-        let w = order[i];
-        all.insert(w);
-        if outs.holds(w, u) {
-            all = all.union(&ins.of(w));
-        }
+        marks = mark(&marks, order[i], ins, outs, u);
     }
-    all
+    marks
+}
+
+// What hears u in the map without the marked units, and not u.
+fn walk<M: Map>(m: &M, marks: UnitSet, u: u8) -> UnitSet
+    ensures { λ r. ⌜ ((v : ℕ) → has r v ≡ (not (eqb v u) && isHeard (hidden (has marks) (M·Map .meaning (now (m .entry)))) u v)) ⌝ }
+{
+    let mut row = heard_from(&Hiding::without(m, marks), u);
+    row.remove(u);
+    row
 }
 
 // The in-row of the unit at place k of the order, where the rows of the units before it are right.
@@ -58,11 +77,7 @@ fn new_row<M: Map>(m: &M, ins: &Holders, outs: &Holders, order: &[u8], k: usize)
     ensures { λ r. ⌜ NewRow (M·Map .meaning (now (m .entry))) (now (order .entry)) (rows (now (ins .entry)) (now (outs .entry))) (getD (now (order .entry)) k 0) (has r) ⌝ }
 {
     m.sound();
-    let u = order[k];
-    let hidden = covered(ins, outs, order, k);
-    let mut row = heard_from(&Hiding::without(m, hidden), u);
-    row.remove(u);
-    row
+    walk(m, covered(ins, outs, order, k), order[k])
 }
 
 // Makes the in-row of the unit at place k of the order new where that unit is one of `may`, and tells by how many members it

@@ -5,4 +5,4 @@ use Rattle.mending.proofs.covered.Given as given
 
 -- the first i units of the order, and what they cover for u
 abbrev pub Inv-loop-i : given.InvT-loop-i
-Inv-loop-i l = Marking (l .order) (rows (l .ins) (l .outs)) (l .u) (l .i) (has (l .all))
+Inv-loop-i l = Marking (l .order) (rows (l .ins) (l .outs)) (l .u) (l .i) (has (l .marks))
