@@ -6,13 +6,13 @@ ghost use Prim.Native.Nat.{ℕ, _+_, _<_, _≤_};
 ghost use lib.Dec.{eqb};
 ghost use lib.ListN.{length, getD};
 ghost use Rattle.units.specs.Has.{has};
-ghost use Rattle.theory.specs.Maps.{hidden};
+ghost use Rattle.theory.specs.Maps.{turned, hidden};
 ghost use Rattle.theory.specs.Hearing.{isHeard};
 ghost use Rattle.theory.specs.Ranks.{Orders, Once};
 ghost use Rattle.theory.specs.Rows.{MarksBy};
 ghost use Rattle.labels.specs.Holding.{holds, Exact};
 ghost use Rattle.mending.specs.Mended.{Mended};
-ghost use Rattle.mending.specs.Steps.{rows, difference, NewRow, Renewed, RenewedAll, emptied};
+ghost use Rattle.mending.specs.Steps.{rows, difference, changed, NewRow, Renewed, RenewedTo, emptied};
 use labels::Holders;
 use labels::Labels;
 use layers::Hiding;
@@ -92,7 +92,9 @@ fn renew<M: Map>(
 ) -> u32
     requires place { ⌜ k < length (now order) ⌝ }
     requires orders { ⌜ Orders (M·Map .meaning (now m)) (now order) ⌝ }
-    ensures { λ r. ⌜ Renewed (M·Map .meaning (now (m .entry))) (now (order .entry)) (getD (now (order .entry)) k 0) (has (now (may .entry))) (now (ins .entry)) (now (outs .entry)) (now (ins .exit)) r ⌝ }
+    ensures row { λ _. ⌜ Renewed (M·Map .meaning (now (m .entry))) (now (order .entry)) (getD (now (order .entry)) k 0) (has (now (may .entry))) (now (ins .entry)) (now (outs .entry)) (now (ins .exit)) ⌝ }
+    ensures number { λ r. ⌜ r ≡ difference (holds (now (ins .entry))) (holds (now (ins .exit))) ⌝ }
+    ensures most { λ r. ⌜ r ≤ 256 ⌝ }
 {
     let u = order[k];
     if !may.contains(u) {
@@ -100,6 +102,28 @@ fn renew<M: Map>(
     }
     let row = new_row(m, ins, outs, order, k);
     replace(ins, u, row)
+}
+
+// The same for both rows of the unit.
+fn renew_both<M: Map>(
+    labels: &mut Labels,
+    m: &M,
+    order: &[u8],
+    k: usize,
+    ups: &UnitSet,
+    downs: &UnitSet,
+) -> u32
+    requires place { ⌜ k < length (now order) ⌝ }
+    requires orders { ⌜ Orders (M·Map .meaning (now m)) (now order) ⌝ }
+    ensures ins { λ _. ⌜ Renewed (M·Map .meaning (now (m .entry))) (now (order .entry)) (getD (now (order .entry)) k 0) (has (now (ups .entry))) (now (labels .entry) .ins) (now (labels .entry) .outs) (now (labels .exit) .ins) ⌝ }
+    ensures outs { λ _. ⌜ Renewed (turned (M·Map .meaning (now (m .entry)))) (now (order .entry)) (getD (now (order .entry)) k 0) (has (now (downs .entry))) (now (labels .entry) .outs) (now (labels .exit) .ins) (now (labels .exit) .outs) ⌝ }
+    ensures number { λ r. ⌜ r ≡ changed (now (labels .entry)) (now (labels .exit)) ⌝ }
+    ensures most { λ r. ⌜ r ≤ 512 ⌝ }
+{
+    let inward = renew(m, &mut labels.ins, &labels.outs, order, k, ups);
+    let back = Turned::over(m);
+    let outward = renew(&back, &mut labels.outs, &labels.ins, order, k, downs);
+    inward + outward
 }
 
 // Makes the rows of all units of the order new, the highest first, in-rows where the unit is one of ups and out-rows where it is
@@ -112,17 +136,14 @@ fn renew_all<M: Map>(
     downs: &UnitSet,
 ) -> u32
     requires { ⌜ Orders (M·Map .meaning (now m)) (now order) ⌝ }
-    ensures { λ r. ⌜ RenewedAll (M·Map .meaning (now (m .entry))) (now (order .entry)) (has (now (ups .entry))) (has (now (downs .entry))) (now (labels .entry)) (now (labels .exit)) r ⌝ }
+    ensures { λ r. ⌜ RenewedTo (length (now (order .entry))) (M·Map .meaning (now (m .entry))) (now (order .entry)) (has (now (ups .entry))) (has (now (downs .entry))) (now (labels .entry)) (now (labels .exit)) r ⌝ }
 {
     m.sound();
-    let turned = Turned::over(m);
-    let mut changed = 0;
+    let mut total = 0;
     for k in 0..order.len() {
-        let inward = renew(m, &mut labels.ins, &labels.outs, order, k, ups);
-        let outward = renew(&turned, &mut labels.outs, &labels.ins, order, k, downs);
-        changed += inward + outward;
+        total += renew_both(labels, m, order, k, ups, downs);
     }
-    changed
+    total
 }
 
 // Empties the sets of the units of `gone`, and tells how many members they had.
@@ -131,13 +152,25 @@ fn empty_sets(table: &mut Holders, gone: &UnitSet) -> u32
     ensures number { λ r. ⌜ r ≡ difference (holds (now (table .entry))) (holds (now (table .exit))) ⌝ }
     ensures most { λ r. ⌜ r ≤ 65536 ⌝ }
 {
-    let mut changed = 0;
+    let mut total = 0;
     let mut c = 0;
     while let Some(u) = gone.least_above(c) {
-        changed += replace(table, u, UnitSet::empty());
+        total += replace(table, u, UnitSet::empty());
         c = u;
     }
-    changed
+    total
+}
+
+// Empties the in-sets of ups and the out-sets of downs, but for those of the map's units, and tells how many members they had.
+fn empty_gone(labels: &mut Labels, units: &UnitSet, ups: &UnitSet, downs: &UnitSet) -> u32
+    ensures ins { λ _. ⌜ ((x v : ℕ) → holds (now (labels .exit) .ins) x v ≡ emptied (λ k. has (now (ups .entry)) k && not (has (now (units .entry)) k)) (holds (now (labels .entry) .ins)) x v) ⌝ }
+    ensures outs { λ _. ⌜ ((x v : ℕ) → holds (now (labels .exit) .outs) x v ≡ emptied (λ k. has (now (downs .entry)) k && not (has (now (units .entry)) k)) (holds (now (labels .entry) .outs)) x v) ⌝ }
+    ensures number { λ r. ⌜ r ≡ changed (now (labels .entry)) (now (labels .exit)) ⌝ }
+    ensures most { λ r. ⌜ r ≤ 131072 ⌝ }
+{
+    let inward = empty_sets(&mut labels.ins, &ups.minus(units));
+    let outward = empty_sets(&mut labels.outs, &downs.minus(units));
+    inward + outward
 }
 
 // Mends the labels after a change of the map and its order: both are given as they are now. Of the labels from before the change
@@ -147,11 +180,19 @@ pub fn mend<M: Map>(labels: &mut Labels, m: &M, order: &[u8], ups: &UnitSet, dow
     ensures { λ r. ⌜ Mended (M·Map .meaning (now (m .entry))) (now (order .entry)) (now (ups .entry)) (now (downs .entry)) (now (labels .entry)) (now (labels .exit)) r ⌝ }
 {
     m.sound();
-    let units = m.units();
     let renewed = renew_all(labels, m, order, ups, downs);
-    let left_ins = empty_sets(&mut labels.ins, &ups.minus(&units));
-    let left_outs = empty_sets(&mut labels.outs, &downs.minus(&units));
-    renewed + left_ins + left_outs
+    renewed + empty_gone(labels, &m.units(), ups, downs)
+}
+
+// Makes labels that hold nothing those of the map and its order: mends them over all units.
+fn fill<M: Map>(labels: &mut Labels, m: &M, order: &[u8], all: &UnitSet)
+    requires orders { ⌜ Orders (M·Map .meaning (now m)) (now order) ⌝ }
+    requires units { ⌜ ((k : ℕ) → has (now all) k ≡ M·Map .meaning (now m) .unit k) ⌝ }
+    requires none { ⌜ ((u v : ℕ) → (holds (now labels .ins) u v ≡ false) × (holds (now labels .outs) u v ≡ false)) ⌝ }
+    ensures { λ _. ⌜ Exact (M·Map .meaning (now (m .entry))) (now (order .entry)) (now (labels .exit)) ⌝ }
+{
+    m.sound();
+    let _ = mend(labels, m, order, all, all);
 }
 
 // The labels of a map and its order, made from nothing.
@@ -159,12 +200,10 @@ pub fn build<M: Map>(m: &M, order: &[u8]) -> Labels
     requires { ⌜ Orders (M·Map .meaning (now m)) (now order) ⌝ }
     ensures { λ r. ⌜ Exact (M·Map .meaning (now (m .entry))) (now (order .entry)) r ⌝ }
 {
-    m.sound();
-    let all = m.units();
     let mut labels = Labels {
         ins: Holders::empty(),
         outs: Holders::empty(),
     };
-    let _ = mend(&mut labels, m, order, &all, &all);
+    fill(&mut labels, m, order, &m.units());
     labels
 }

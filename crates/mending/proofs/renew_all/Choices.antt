@@ -1,7 +1,7 @@
 use Rattle.units.specs.Has.{has}
-use Rattle.mending.proofs.Renewing.{Renewing}
+use Rattle.mending.specs.Steps.{RenewedTo}
 use Rattle.mending.proofs.renew_all.Given as given
 
 -- the rows of the first k units are right, those from k on are the old ones, and the count is what changed in the first k
 abbrev pub Inv-loop-k : given.InvT-loop-k
-Inv-loop-k g l = Renewing (g .M·Map .meaning (l .m)) (l .order) (has (l .ups)) (has (l .downs)) (l .k) (l .entry .labels) (l .labels) (l .changed)
+Inv-loop-k g l = RenewedTo (l .k) (g .M·Map .meaning (l .m)) (l .order) (has (l .ups)) (has (l .downs)) (l .entry .labels) (l .labels) (l .total)
