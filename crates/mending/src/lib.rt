@@ -168,9 +168,9 @@ fn empty_gone(labels: &mut Labels, units: &UnitSet, ups: &UnitSet, downs: &UnitS
     ensures number { λ r. ⌜ r ≡ changed (now (labels .entry)) (now (labels .exit)) ⌝ }
     ensures most { λ r. ⌜ r ≤ 131072 ⌝ }
 {
-    let inward = empty_sets(&mut labels.ins, &ups.minus(units));
-    let outward = empty_sets(&mut labels.outs, &downs.minus(units));
-    inward + outward
+    let from_ins = empty_sets(&mut labels.ins, &ups.minus(units));
+    let from_outs = empty_sets(&mut labels.outs, &downs.minus(units));
+    from_ins + from_outs
 }
 
 // Mends the labels after a change of the map and its order: both are given as they are now. Of the labels from before the change
