@@ -30,6 +30,11 @@ difference old new = sum-below (λ u. count (λ v. oneOf (old u v) (new u v))) 2
 abbrev pub changed : Labels → Labels → ℕ
 changed old new = difference (holds (old .ins)) (holds (new .ins)) + difference (holds (old .outs)) (holds (new .outs))
 
+-- The set has the first k units of the order, and no others.
+pub record Firsts (order : List ℕ) (k : ℕ) (set : ℕ → Bool) : Type 0 where
+  pub every : (i : ℕ) → i < k → T (set (getD order i 0))
+  pub only : (x : ℕ) → T (set x) → (i : ℕ) × (i < k) × (getD order i 0 ≡ x)
+
 -- The set is the in-row of u, where the rows of all higher units are right.
 abbrev pub NewRow : Map → List ℕ → Rows → ℕ → (ℕ → Bool) → Type 0
 NewRow m order before u row = RightBefore m order before u → (v : ℕ) → row v ≡ isInLabel m (rankIn order) u v

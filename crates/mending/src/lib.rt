@@ -12,7 +12,7 @@ ghost use Rattle.theory.specs.Ranks.{Orders, Once};
 ghost use Rattle.theory.specs.Rows.{MarksBy};
 ghost use Rattle.labels.specs.Holding.{holds, Exact};
 ghost use Rattle.mending.specs.Mended.{Mended};
-ghost use Rattle.mending.specs.Steps.{rows, difference, changed, NewRow, Renewed, RenewedTo, emptied};
+ghost use Rattle.mending.specs.Steps.{rows, difference, changed, Firsts, NewRow, Renewed, RenewedTo, emptied};
 use labels::Holders;
 use labels::Labels;
 use layers::Hiding;
@@ -35,26 +35,25 @@ fn replace(table: &mut Holders, u: u8, set: UnitSet) -> u32
     u32::from(old.difference_len(&set))
 }
 
-// Marks w besides and, where w has u among its out-holders, the in-holders of w: these hear u through w.
+// Marks besides, where w has u among its out-holders, the in-holders of w: these hear u through w.
 fn mark(marks: &UnitSet, w: u8, ins: &Holders, outs: &Holders, u: u8) -> UnitSet
-    ensures { λ r. ⌜ ((x : ℕ) → has r x ≡ ((eqb x w || has (now (marks .entry)) x) || (holds (now (outs .entry)) w u && holds (now (ins .entry)) w x))) ⌝ }
+    ensures { λ r. ⌜ ((x : ℕ) → has r x ≡ (has (now (marks .entry)) x || (holds (now (outs .entry)) w u && holds (now (ins .entry)) w x))) ⌝ }
 {
-    let mut all = *marks;
-    all.insert(w);
     if outs.holds(w, u) {
-        return all.union(&ins.of(w));
+        return marks.union(&ins.of(w));
     }
-    all
+    *marks
 }
 
-// The first k units of the order, and what they cover for the next.
-fn covered(ins: &Holders, outs: &Holders, order: &[u8], k: usize) -> UnitSet
+// What the first k units of the order cover for the next, and these units, which are `done`.
+fn covered(ins: &Holders, outs: &Holders, order: &[u8], k: usize, done: &UnitSet) -> UnitSet
     requires place { ⌜ k < length (now order) ⌝ }
     requires once { ⌜ Once (now order) ⌝ }
+    requires done { ⌜ Firsts (now order) k (has (now done)) ⌝ }
     ensures { λ r. ⌜ MarksBy (now (order .entry)) (rows (now (ins .entry)) (now (outs .entry))) (getD (now (order .entry)) k 0) (has r) ⌝ }
 {
     let u = order[k];
-    let mut marks = UnitSet::empty();
+    let mut marks = *done;
     for i in 0..k {
         marks = mark(&marks, order[i], ins, outs, u);
     }
@@ -71,27 +70,37 @@ fn walk<M: Map>(m: &M, marks: UnitSet, u: u8) -> UnitSet
 }
 
 // The in-row of the unit at place k of the order, where the rows of the units before it are right.
-fn new_row<M: Map>(m: &M, ins: &Holders, outs: &Holders, order: &[u8], k: usize) -> UnitSet
+fn new_row<M: Map>(
+    m: &M,
+    ins: &Holders,
+    outs: &Holders,
+    order: &[u8],
+    k: usize,
+    done: &UnitSet,
+) -> UnitSet
     requires place { ⌜ k < length (now order) ⌝ }
     requires orders { ⌜ Orders (M·Map .meaning (now m)) (now order) ⌝ }
+    requires done { ⌜ Firsts (now order) k (has (now done)) ⌝ }
     ensures { λ r. ⌜ NewRow (M·Map .meaning (now (m .entry))) (now (order .entry)) (rows (now (ins .entry)) (now (outs .entry))) (getD (now (order .entry)) k 0) (has r) ⌝ }
 {
     m.sound();
-    walk(m, covered(ins, outs, order, k), order[k])
+    walk(m, covered(ins, outs, order, k, done), order[k])
 }
 
-// Makes the in-row of the unit at place k of the order new where that unit is one of `may`, and tells by how many members it
-// changed. Over the turned map and the tables swapped it does so for the out-row.
+// Makes the in-row of the unit at place k of the order new where that unit is one of `may`, and tells by how many members
+// it changed. Over the turned map and the tables swapped it does so for the out-row.
 fn renew<M: Map>(
     m: &M,
     ins: &mut Holders,
     outs: &Holders,
     order: &[u8],
     k: usize,
+    done: &UnitSet,
     may: &UnitSet,
 ) -> u32
     requires place { ⌜ k < length (now order) ⌝ }
     requires orders { ⌜ Orders (M·Map .meaning (now m)) (now order) ⌝ }
+    requires done { ⌜ Firsts (now order) k (has (now done)) ⌝ }
     ensures row { λ _. ⌜ Renewed (M·Map .meaning (now (m .entry))) (now (order .entry)) (getD (now (order .entry)) k 0) (has (now (may .entry))) (now (ins .entry)) (now (outs .entry)) (now (ins .exit)) ⌝ }
     ensures number { λ r. ⌜ r ≡ difference (holds (now (ins .entry))) (holds (now (ins .exit))) ⌝ }
     ensures most { λ r. ⌜ r ≤ 256 ⌝ }
@@ -100,7 +109,7 @@ fn renew<M: Map>(
     if !may.contains(u) {
         return 0;
     }
-    let row = new_row(m, ins, outs, order, k);
+    let row = new_row(m, ins, outs, order, k, done);
     replace(ins, u, row)
 }
 
@@ -110,24 +119,26 @@ fn renew_both<M: Map>(
     m: &M,
     order: &[u8],
     k: usize,
+    done: &UnitSet,
     ups: &UnitSet,
     downs: &UnitSet,
 ) -> u32
     requires place { ⌜ k < length (now order) ⌝ }
     requires orders { ⌜ Orders (M·Map .meaning (now m)) (now order) ⌝ }
+    requires done { ⌜ Firsts (now order) k (has (now done)) ⌝ }
     ensures ins { λ _. ⌜ Renewed (M·Map .meaning (now (m .entry))) (now (order .entry)) (getD (now (order .entry)) k 0) (has (now (ups .entry))) (now (labels .entry) .ins) (now (labels .entry) .outs) (now (labels .exit) .ins) ⌝ }
     ensures outs { λ _. ⌜ Renewed (turned (M·Map .meaning (now (m .entry)))) (now (order .entry)) (getD (now (order .entry)) k 0) (has (now (downs .entry))) (now (labels .entry) .outs) (now (labels .exit) .ins) (now (labels .exit) .outs) ⌝ }
     ensures number { λ r. ⌜ r ≡ changed (now (labels .entry)) (now (labels .exit)) ⌝ }
     ensures most { λ r. ⌜ r ≤ 512 ⌝ }
 {
-    let inward = renew(m, &mut labels.ins, &labels.outs, order, k, ups);
+    let inward = renew(m, &mut labels.ins, &labels.outs, order, k, done, ups);
     let back = Turned::over(m);
-    let outward = renew(&back, &mut labels.outs, &labels.ins, order, k, downs);
+    let outward = renew(&back, &mut labels.outs, &labels.ins, order, k, done, downs);
     inward + outward
 }
 
-// Makes the rows of all units of the order new, the highest first, in-rows where the unit is one of ups and out-rows where it is
-// one of downs, and tells by how many members they changed.
+// Makes the rows of all units of the order new, the highest first, in-rows where the unit is one of ups and out-rows where
+// it is one of downs, and tells by how many members they changed.
 fn renew_all<M: Map>(
     labels: &mut Labels,
     m: &M,
@@ -140,8 +151,10 @@ fn renew_all<M: Map>(
 {
     m.sound();
     let mut total = 0;
+    let mut done = UnitSet::empty();
     for k in 0..order.len() {
-        total += renew_both(labels, m, order, k, ups, downs);
+        total += renew_both(labels, m, order, k, &done, ups, downs);
+        done.insert(order[k]);
     }
     total
 }
@@ -161,7 +174,8 @@ fn empty_sets(table: &mut Holders, gone: &UnitSet) -> u32
     total
 }
 
-// Empties the in-sets of ups and the out-sets of downs, but for those of the map's units, and tells how many members they had.
+// Empties the in-rows of ups and the out-rows of downs, but for those of the map's units, and tells how many members they
+// had: these are the rows of a unit that was dropped.
 fn empty_gone(labels: &mut Labels, units: &UnitSet, ups: &UnitSet, downs: &UnitSet) -> u32
     ensures ins { λ _. ⌜ ((x v : ℕ) → holds (now (labels .exit) .ins) x v ≡ emptied (λ k. has (now (ups .entry)) k && not (has (now (units .entry)) k)) (holds (now (labels .entry) .ins)) x v) ⌝ }
     ensures outs { λ _. ⌜ ((x v : ℕ) → holds (now (labels .exit) .outs) x v ≡ emptied (λ k. has (now (downs .entry)) k && not (has (now (units .entry)) k)) (holds (now (labels .entry) .outs)) x v) ⌝ }
@@ -173,8 +187,8 @@ fn empty_gone(labels: &mut Labels, units: &UnitSet, ups: &UnitSet, downs: &UnitS
     from_ins + from_outs
 }
 
-// Mends the labels after a change of the map and its order: both are given as they are now. Of the labels from before the change
-// only those between a unit of ups and a unit of downs may differ. Tells how many labels came or went.
+// Mends the labels after a change of the map and its order, which are given as they are now. Of the labels from before the
+// change only those between a unit of ups and a unit of downs may differ. Tells how many labels came or went.
 pub fn mend<M: Map>(labels: &mut Labels, m: &M, order: &[u8], ups: &UnitSet, downs: &UnitSet) -> u32
     requires { ⌜ Orders (M·Map .meaning (now m)) (now order) ⌝ }
     ensures { λ r. ⌜ Mended (M·Map .meaning (now (m .entry))) (now (order .entry)) (now (ups .entry)) (now (downs .entry)) (now (labels .entry)) (now (labels .exit)) r ⌝ }

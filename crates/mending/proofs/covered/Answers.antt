@@ -2,12 +2,15 @@ use native.Mathlib.Omega.{arith}
 use lib.ListN.{getD}
 use Rattle.units.specs.Has.{has}
 use Rattle.mending.specs.Steps.{rows}
-use Rattle.mending.proofs.Marking.{marking-more, marking-all}
+use Rattle.mending.proofs.Marking.{marking-none, marking-more, marking-all}
 use Rattle.mending.proofs.covered.Needs as need
+
+pub loop-i-holds : need.loop-i-holds
+loop-i-holds c = marking-none (c .args .order .now) (rows (c .args .ins .now) (c .args .outs .now)) (getD (c .args .order .now) (c .args .k) 0) (c .args .k) (has (c .args .done .now)) (c .pre .done)
 
 pub loop-i-again : need.loop-i-again
 loop-i-again c =
-    marking-more (c .args .order .now) (rows (c .args .ins .now) (c .args .outs .now)) (getD (c .args .order .now) (c .args .k) 0) (c .loop-i .i) (has (c .loop-i .marks)) (has (c .mark-marks .result))
+    marking-more (c .args .order .now) (rows (c .args .ins .now) (c .args .outs .now)) (getD (c .args .order .now) (c .args .k) 0) (c .args .k) (c .loop-i .i) (omega arith) (has (c .loop-i .marks)) (has (c .mark-marks .result))
     (c .mark-marks .ensures) (c .loop-i .inv)
 
 pub returns : need.returns
