@@ -8,7 +8,7 @@ use native.Mathlib.Omega.{arith}
 use lib.Dec.{eqb}
 use Rattle.std.proofs.shelf.Tests.{cases-eq, cond-true, cond-false, eq-eqb, ne-eqb}
 use Rattle.theory.specs.Chains.{On}
-use Rattle.theory.specs.Counts.{sum-below, one, count}
+use Rattle.theory.specs.Counts.{sum-below, count}
 use Rattle.theory.specs.Ranks.{Once}
 use Rattle.theory.specs.Lists.{sum}
 use Rattle.theory.specs.Rows.{Rows}

@@ -12,9 +12,9 @@ use Rattle.theory.specs.Changes.{Frame}
 use Rattle.labels.specs.declared.Labels.{Labels}
 use Rattle.labels.specs.Holding.{Exact}
 
--- From whatever map and order the labels were exact for: where the change to the map `after` and its order alters only labels
--- between a unit of ups and a unit of downs, the labels are exact for that map and order now, and `changed` is how many labels
--- stand before or after the change, and not both.
+-- From whatever map and order the labels were exact for: where the change to the map `after` and its order alters only
+-- labels between a unit of ups and a unit of downs, the labels are exact for that map and order now, and `changed` is how
+-- many labels stand before or after the change, and not both.
 abbrev pub Mended : Map → List ℕ → UnitSet → UnitSet → Labels → Labels → ℕ → Type 0
 Mended after order ups downs old new changed =
     (before : Map) (earlier : List ℕ) → Sound before → Orders before earlier → Exact before earlier old →

@@ -3,6 +3,6 @@ use Rattle.mending.specs.Steps.{rows}
 use Rattle.mending.proofs.Marking.{Marking}
 use Rattle.mending.proofs.covered.Given as given
 
--- the first i units of the order, and what they cover for u
+-- the first k units of the order, and what the first i of them cover for u
 abbrev pub Inv-loop-i : given.InvT-loop-i
-Inv-loop-i l = Marking (l .order) (rows (l .ins) (l .outs)) (l .u) (l .i) (has (l .all))
+Inv-loop-i l = Marking (l .order) (rows (l .ins) (l .outs)) (l .u) (l .k) (l .i) (has (l .marks))

@@ -7,8 +7,7 @@ use Rattle.mending.proofs.renew.Needs as need
 
 pub returns-then-not-contains : need.returns-then-not-contains
 returns-then-not-contains g c = record {
-  right = λ settled _. settled (λ t. subst T (sym (c .if-not-contains .ensures tt)) t);
-  others = λ x ne v. refl;
+  row = record { right = λ settled _. settled (λ t. subst T (sym (c .if-not-contains .ensures tt)) t); others = λ x ne v. refl };
   number = sym (difference-none (holds (c .args .ins .now)));
   most = omega arith;
 }
