@@ -8,7 +8,7 @@ use Rattle.theory.specs.Ranks.{Orders}
 use Rattle.labels.specs.declared.Labels.{Labels}
 use Rattle.labels.specs.Holding.{holds, Exact}
 
--- The map is sound, the order is one of its units, and the labels kept are those of the two.
+-- The map is sound, the order has its units, and the labels kept are those of the map in this order.
 pub record Kept (m : Map) (order : List ℕ) (l : Labels) : Type 0 where
   pub sound : Sound m
   pub orders : Orders m order
