@@ -1,5 +1,6 @@
 -- What a call answers, by the plain book.
 use mathlib.Core.Path.{_≡_}
+use mathlib.Core.Bool.{Bool, true, false}
 use mathlib.Core.List.{List, _++_}
 use Prim.Native.Nat.{ℕ}
 use lib.ListN.{length, drop}
@@ -7,6 +8,8 @@ use Rattle.std.specs.declared.option.Option.{Option}
 use Rattle.std.specs.declared.option.Option.the-variants.{Some, None}
 use Rattle.std.specs.declared.result.Result.{Result}
 use Rattle.std.specs.declared.result.Result.the-variants.{Ok, Err}
+use Rattle.theory.specs.Maps.{Map}
+use Rattle.theory.specs.Chains.{Heard}
 use Rattle.theory.specs.Lists.{labels-changed}
 use Rattle.plain.specs.declared.BookFault.{BookFault}
 use Rattle.plain.specs.declared.BookFault.the-variants as fault
@@ -42,3 +45,8 @@ fault-of (Err e) = Err fault.ShortBuffer
 pub record Applied (capacity : ℕ) (p : Plain) (r : Request) (answer : Result ℕ BookFault) (after : Plain) : Type 0 where
   pub told : answer ≡ answered (verdict capacity p r) (alters p (granted p r))
   pub left : after ≡ step capacity p r
+
+-- A yes is a chain of pairings from s to t, and a no that there is none.
+pub record ByChains (m : Map) (s t : ℕ) (answer : Result Bool BookFault) : Type 0 where
+  pub heard : answer ≡ Ok true → Heard m s t
+  pub unheard : answer ≡ Ok false → Heard m s t → ⊥

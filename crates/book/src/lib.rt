@@ -13,7 +13,7 @@ ghost use Rattle.plain.specs.Plain.{map-of, empty, hears};
 ghost use Rattle.plain.specs.Pages.{some, doubled};
 ghost use Rattle.plain.specs.Requests.{Hear, Enrol, Pair, Unpair, Drop, Rank, enrol-checks, partners, rank-checks, pair-checks, unpair-checks, InLabels, OutLabels, InHolders, OutHolders, first-cause, unknown, stands, verdict};
 ghost use Rattle.book.specs.Views.{plain-of, Whole};
-ghost use Rattle.book.specs.Answers.{answered, Lists, Applied, fault-of};
+ghost use Rattle.book.specs.Answers.{answered, ByChains, Lists, Applied, fault-of};
 use grid::Matrix;
 use grid::MatrixMap;
 use labels::Holders;
@@ -82,6 +82,7 @@ impl<S: Store> Book<S> {
     pub fn hear(&self, s: u8, t: u8) -> Result<bool, BookFault>
         requires { ⌜ Whole (S·Map .meaning) (now self) ⌝ }
         ensures told { λ r. ⌜ r ≡ answered (verdict (S·Store .room) (plain-of (S·Map .meaning) (now (self .entry))) (Hear s t)) (hears (plain-of (S·Map .meaning) (now (self .entry))) t s) ⌝ }
+        ensures chains { λ r. ⌜ ByChains (map-of (plain-of (S·Map .meaning) (now (self .entry)))) s t r ⌝ }
     {
         self.check_both(s, t)?;
         Ok(self.is_heard(s, t))
