@@ -70,7 +70,7 @@ fn enrolment(heap: Global, line: &str) -> Result<Change, AnyError> {
 }
 
 // The change that a line writes.
-fn change(heap: Global, line: &str) -> Result<Change, AnyError> {
+fn parse_change(heap: Global, line: &str) -> Result<Change, AnyError> {
     let mut words = line.split(' ');
     match words.next() {
         Some("e") => enrolment(heap, line),
@@ -104,7 +104,7 @@ fn read_changes(rt: &LibcRuntime) -> Result<Vec<Change>, AnyError> {
     let _ = input.read_to_string(&mut text)?;
     let mut changes = Vec::new(rt.alloc());
     for line in text.as_str().lines() {
-        changes.push(change(rt.alloc(), line)?)?;
+        changes.push(parse_change(rt.alloc(), line)?)?;
     }
     Ok(changes)
 }
@@ -115,4 +115,100 @@ fn hashed(mut hash: u32, units: &[u8]) -> u32 {
         hash = hash.wrapping_mul(31).wrapping_add(u32::from(*u));
     }
     hash
+}
+
+// The number of labels so far, and the checksum of their lists.
+#[derive(Clone, Copy)]
+struct Summary {
+    labels: u32,
+    hash: u32,
+}
+
+impl Summary {
+    // With a list more, in the first n bytes of the buffer.
+    fn with(self, buffer: &[u8], n: usize) -> Summary {
+        Summary {
+            labels: self.labels.saturating_add(counted(n)),
+            hash: hashed(self.hash, front(buffer, n)),
+        }
+    }
+}
+
+// With the in-labels of u, and then its out-labels, each by rank.
+fn with_unit(book: &Book<Grid>, u: u8, so_far: Summary) -> Summary
+    requires { ⌜ Whole grid-map (now book) ⌝ }
+{
+    let mut buffer = [0u8; 255];
+    let Ok(n) = book.in_labels(u, &mut buffer) else {
+        return so_far;
+    };
+    let more = so_far.with(&buffer, n);
+    let Ok(n) = book.out_labels(u, &mut buffer) else {
+        return more;
+    };
+    more.with(&buffer, n)
+}
+
+// Over the units by number.
+fn sum_up(book: &Book<Grid>) -> Summary
+    requires { ⌜ Whole grid-map (now book) ⌝ }
+{
+    let mut all = Summary { labels: 0, hash: 0 };
+    for u in 1..256u16 {
+        all = with_unit(book, u as u8, all);
+    }
+    all
+}
+
+fn counted(n: usize) -> u32 {
+    u32::try_from(n).unwrap_or(u32::MAX)
+}
+
+// The first n bytes, or all where there are fewer.
+fn front(bytes: &[u8], n: usize) -> &[u8] {
+    if n <= bytes.len() { &bytes[0..n] } else { bytes }
+}
+
+// Plays all changes, and adds up how long each kind took: enrolments after the first drop, pairings, drops.
+fn play_all(rt: &LibcRuntime, book: &mut Book<Grid>, changes: &[Change]) -> Result<[Spent; 3], AnyError>
+    requires { ⌜ Whole grid-map (now book) ⌝ }
+    ensures { λ _. ⌜ Whole grid-map (now (book .exit)) ⌝ }
+{
+    let mut spent = [Spent { times: 0, nanos: 0 }; 3];
+    let mut dropped = false;
+    for change in changes {
+        let began = Instant::now(rt)?;
+        let _ = play(book, change);
+        let nanos = began.elapsed(rt)?.as_nanos();
+        let kind = match change {
+            Change::Enrol { .. } => 0,
+            Change::Pair(_, _) => 1,
+            Change::Drop(_) => 2,
+        };
+        dropped = dropped || kind == 2;
+        if dropped || kind == 1 {
+            spent[kind] = more(spent[kind], nanos);
+        }
+    }
+    Ok(spent)
+}
+
+fn more(spent: Spent, nanos: u128) -> Spent {
+    Spent {
+        times: spent.times.saturating_add(1),
+        nanos: spent.nanos.saturating_add(nanos),
+    }
+}
+
+fn main(rt: LibcRuntime) -> Result<(), AnyError> {
+    let changes = read_changes(&rt)?;
+    let mut book = Book::make(Grid::new());
+    let spent = play_all(&rt, &mut book, changes.as_slice())?;
+    let Summary { labels, hash } = sum_up(&book);
+    println!(rt, "labels: {labels} checksum: {hash}")?;
+    let enrols = spent[0].nanos / u128::from(spent[0].times.max(1));
+    let pairs = spent[1].nanos / u128::from(spent[1].times.max(1));
+    let drops = spent[2].nanos / u128::from(spent[2].times.max(1));
+    eprintln!(rt, "re-enrol: {enrols} ns, pair: {pairs} ns, drop: {drops} ns")?;
+    Ok(())
 }

@@ -33,6 +33,7 @@ use plain::BookFromStore;
 use ranks::Ranks;
 use units::UnitSet;
 
+#[derive(Drop)]
 pub struct Book<S: Store> {
     store: S,
     ranks: Ranks,
