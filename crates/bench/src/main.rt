@@ -166,11 +166,19 @@ fn counted(n: usize) -> u32 {
 
 // The first n bytes, or all where there are fewer.
 fn front(bytes: &[u8], n: usize) -> &[u8] {
-    if n <= bytes.len() { &bytes[0..n] } else { bytes }
+    if n <= bytes.len() {
+        &bytes[0..n]
+    } else {
+        bytes
+    }
 }
 
 // Plays all changes, and adds up how long each kind took: enrolments after the first drop, pairings, drops.
-fn play_all(rt: &LibcRuntime, book: &mut Book<Grid>, changes: &[Change]) -> Result<[Spent; 3], AnyError>
+fn play_all(
+    rt: &LibcRuntime,
+    book: &mut Book<Grid>,
+    changes: &[Change],
+) -> Result<[Spent; 3], AnyError>
     requires { ⌜ Whole grid-map (now book) ⌝ }
     ensures { λ _. ⌜ Whole grid-map (now (book .exit)) ⌝ }
 {
@@ -200,15 +208,67 @@ fn more(spent: Spent, nanos: u128) -> Spent {
     }
 }
 
+// How many of all questions whether one unit hears another are answered yes.
+fn heard_in_all(book: &Book<Grid>) -> u32
+    requires { ⌜ Whole grid-map (now book) ⌝ }
+{
+    let mut yes = 0u32;
+    for s in 1..256u16 {
+        yes = yes.saturating_add(hearers_of(book, s as u8));
+    }
+    yes
+}
+
+fn hearers_of(book: &Book<Grid>, s: u8) -> u32
+    requires { ⌜ Whole grid-map (now book) ⌝ }
+{
+    let mut yes = 0u32;
+    for t in 1..256u16 {
+        if let Ok(true) = book.hear(s, t as u8) {
+            yes = yes.saturating_add(1);
+        }
+    }
+    yes
+}
+
+// Whether the times are asked for.
+fn is_timed(rt: &LibcRuntime) -> Result<bool, AnyError> {
+    for word in env::args(rt)?.skip(1) {
+        if word.as_str() == "time" {
+            return Ok(true);
+        }
+    }
+    Ok(false)
+}
+
+// Nanoseconds for each time.
+fn each(spent: Spent) -> u128 {
+    spent.nanos / u128::from(spent.times.max(1))
+}
+
+// Tells the times on standard error.
+fn report(rt: &LibcRuntime, book: &Book<Grid>, spent: [Spent; 3]) -> Result<(), AnyError>
+    requires { ⌜ Whole grid-map (now book) ⌝ }
+{
+    let enrol = each(spent[0]);
+    let pair = each(spent[1]);
+    let drop = each(spent[2]);
+    eprintln!(rt, "re-enrol: {enrol} ns, pair: {pair} ns, drop: {drop} ns")?;
+    let began = Instant::now(rt)?;
+    let yes = heard_in_all(book);
+    let hear = began.elapsed(rt)?.as_nanos() / 65025;
+    eprintln!(rt, "hear: {hear} ns ({yes} of 65025 yes)")?;
+    Ok(())
+}
+
 fn main(rt: LibcRuntime) -> Result<(), AnyError> {
     let changes = read_changes(&rt)?;
     let mut book = Book::make(Grid::new());
     let spent = play_all(&rt, &mut book, changes.as_slice())?;
     let Summary { labels, hash } = sum_up(&book);
     println!(rt, "labels: {labels} checksum: {hash}")?;
-    let enrols = spent[0].nanos / u128::from(spent[0].times.max(1));
-    let pairs = spent[1].nanos / u128::from(spent[1].times.max(1));
-    let drops = spent[2].nanos / u128::from(spent[2].times.max(1));
-    eprintln!(rt, "re-enrol: {enrols} ns, pair: {pairs} ns, drop: {drops} ns")?;
+    if is_timed(&rt)? {
+        report(&rt, &book, spent)?;
+    }
     Ok(())
 }
