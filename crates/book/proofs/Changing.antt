@@ -55,8 +55,8 @@ wider : (m : Map) (rank : ℕ → ℕ) (n : Map) (rate : ℕ → ℕ) (A D B E :
 wider m rank n rate A D B E frame a d u v off = frame u v (λ x y. off (a u x) (d v y))
 
 -- what hears a unit is in a set that was asked for it
-pub in-set : (m : Map) → Sound m → (s t : ℕ) (has-it : Bool) → has-it ≡ isHeard m s t → Heard m s t → T has-it
-in-set m sound s t b e h = subst T (sym e) (heard-complete m sound s t h)
+pub in-set : (m : Map) (order : List ℕ) → Sound m → Orders m order → (s t : ℕ) (has-it : Bool) → has-it ≡ isHeard (map-of (plain-by m order)) s t → Heard m s t → T has-it
+in-set m order sound orders s t b e h = subst T (sym e) (subst (λ (n : Map). T (isHeard n s t)) (stored-by m order orders) (heard-complete m sound s t h))
 
 -- a refused request, at the exit of the check that refused it
 pub refused : (capacity : ℕ) (m : Map) (order : List ℕ) (r : Request) (answer : Result ℕ BookFault) (cause : BookFault) → Err cause ≡ answered (verdict capacity (plain-by m order) r) (tt {0}) →

@@ -38,11 +38,12 @@ module _ (m : Map) (order : List ℕ) (orders : Orders m order) where
   pub in-order : (u : ℕ) → listed u order ≡ true → T (m .unit u)
   in-order u e = orders .only u (listed-on u order .0 (passes (listed u order) e))
 
-  pub both-known : (a b : ℕ) → (not (listed a order) || (not (listed b order) || false)) ≡ false → T (m .unit a) × T (m .unit b)
-  both-known a b e =
-      let p = or-parts (not (listed a order)) (not (listed b order) || false) e in
-      let q = or-parts (not (listed b order)) false (p .1) in
-      (in-order a (not-false (listed a order) (p .0)), in-order b (not-false (listed b order) (q .0)))
+-- what the first check of a pairing leaves: both units are in the order
+pub both-known : (order : List ℕ) (a b : ℕ) → (not (listed a order) || (not (listed b order) || false)) ≡ false → (listed a order ≡ true) × (listed b order ≡ true)
+both-known order a b e =
+    let p = or-parts (not (listed a order)) (not (listed b order) || false) e in
+    let q = or-parts (not (listed b order)) false (p .1) in
+    (not-false (listed a order) (p .0), not-false (listed b order) (q .0))
 
 module _ (capacity : ℕ) (m : Map) (order : List ℕ) (l : Labels) (keeps : Keeps m order l) (a b : ℕ) where
   -- what a granted pairing knows
@@ -55,11 +56,12 @@ module _ (capacity : ℕ) (m : Map) (order : List ℕ) (l : Labels) (keeps : Kee
   pub pairable : first-cause (pair-checks capacity (plain-by m order) a b) ≡ None → Pairable
   pairable e =
       let p = all-absent (pair-checks capacity (plain-by m order) a b) e in
-      let known = both-known m order (keeps .orders) a b (p .0) in
+      let both = both-known order a b (p .0) in
+      let from = in-order m order (keeps .orders) a (both .0) in
       let free : Heard m b a → ⊥ = λ h. both-ways (isHeard m b a) (ap (λ (n : Map). isHeard n b a) (stored-by m order (keeps .orders)) ∙ p .1 .0) (passed (isHeard m b a) (heard-complete m (keeps .sound) b a h)) in
-      record { from = known .0; to = known .1; free = free; apart = λ is. free (subst (λ (z : ℕ). Heard m z a) is (heard-self m a (known .0))) }
+      record { from = from; to = in-order m order (keeps .orders) b (both .1); free = free; apart = λ is. free (subst (λ (z : ℕ). Heard m z a) is (heard-self m a from)) }
 
-  pub pair-done : first-cause (pair-checks capacity (plain-by m order) a b) ≡ None → (ups downs : UnitSet) → ((u : ℕ) → has ups u ≡ isHeard m u a) → ((u : ℕ) → has downs u ≡ isHeard m b u) →
+  pub pair-done : first-cause (pair-checks capacity (plain-by m order) a b) ≡ None → (ups downs : UnitSet) → ((u : ℕ) → has ups u ≡ hears (plain-by m order) a u) → ((u : ℕ) → has downs u ≡ hears (plain-by m order) u b) →
       (l′ : Labels) (count : ℕ) (m′ : Map) (after′ : List ℕ) → Mended (with-pair a b m) order ups downs l l′ count → m′ ≡ with-pair a b m → after′ ≡ order →
       Applied capacity (plain-by m order) (Pair a b) (Ok count) (plain-by m′ after′) × Agrees m′ after′ l′
   unfolding checks granted
@@ -69,9 +71,9 @@ module _ (capacity : ℕ) (m : Map) (order : List ℕ) (l : Labels) (keeps : Kee
       (record { every = keeps .orders .every; only = keeps .orders .only; once = keeps .orders .once })
       (rings-kept-out .pair m (keeps .sound) (keeps .ringless) a b (p .from) (p .to) (p .apart) .1 (p .free)) e refl (λ u. Heard m u a) (λ u. Heard m b u)
       (pair-frame m (keeps .sound) a b (p .from) (p .to) (p .apart) _) ups downs l′ count m′ after′ mended
-      (λ u h. in-set m (keeps .sound) u a (has ups u) (up u) h) (λ u h. in-set m (keeps .sound) b u (has downs u) (down u) h) is same
+      (λ u h. in-set m order (keeps .sound) (keeps .orders) u a (has ups u) (up u) h) (λ u h. in-set m order (keeps .sound) (keeps .orders) b u (has downs u) (down u) h) is same
 
-  pub unpair-done : first-cause (unpair-checks (plain-by m order) a b) ≡ None → (ups downs : UnitSet) → ((u : ℕ) → has ups u ≡ isHeard m u a) → ((u : ℕ) → has downs u ≡ isHeard m b u) →
+  pub unpair-done : first-cause (unpair-checks (plain-by m order) a b) ≡ None → (ups downs : UnitSet) → ((u : ℕ) → has ups u ≡ hears (plain-by m order) a u) → ((u : ℕ) → has downs u ≡ hears (plain-by m order) u b) →
       (l′ : Labels) (count : ℕ) (m′ : Map) (after′ : List ℕ) → Mended (without-pair a b m) order ups downs l l′ count → m′ ≡ without-pair a b m → after′ ≡ order →
       Applied capacity (plain-by m order) (Unpair a b) (Ok count) (plain-by m′ after′) × Agrees m′ after′ l′
   unfolding checks granted
@@ -80,7 +82,7 @@ module _ (capacity : ℕ) (m : Map) (order : List ℕ) (l : Labels) (keeps : Kee
       (record { every = keeps .orders .every; only = keeps .orders .only; once = keeps .orders .once })
       (rings-kept-out .unpair m (keeps .sound) (keeps .ringless) a b) e refl (λ u. Heard m u a) (λ u. Heard m b u)
       (unpair-frame m (keeps .sound) a b _) ups downs l′ count m′ after′ mended
-      (λ u h. in-set m (keeps .sound) u a (has ups u) (up u) h) (λ u h. in-set m (keeps .sound) b u (has downs u) (down u) h) is same
+      (λ u h. in-set m order (keeps .sound) (keeps .orders) u a (has ups u) (up u) h) (λ u h. in-set m order (keeps .sound) (keeps .orders) b u (has downs u) (down u) h) is same
 
   -- the store does not refuse it either
   pub join-granted : first-cause (pair-checks capacity (plain-by m order) a b) ≡ None → join-cause m capacity a b ≡ None

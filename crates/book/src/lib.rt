@@ -3,7 +3,9 @@
 ghost use mathlib.Core.Path.{_≡_};
 ghost use mathlib.Core.Bool.{true, false, not, _||_};
 ghost use mathlib.Core.List.{[], _∷_, _++_};
+ghost use Prim.Native.Nat.{ℕ};
 ghost use lib.ListN.{length};
+ghost use Rattle.units.specs.Has.{has};
 ghost use Rattle.std.specs.declared.result.Result.the-variants.{Err};
 ghost use Rattle.theory.specs.Ranks.{Orders};
 ghost use Rattle.ranks.specs.Orders.{order-of};
@@ -136,6 +138,17 @@ impl<S: Store> Book<S> {
         fitted(self.labels.out_holders(self.ranks.as_slice(), u, buffer))
     }
 
+    // The units between which a change of a and b can alter labels: all that a hears, and all that hear b.
+    fn touched(&self, a: u8, b: u8) -> (UnitSet, UnitSet)
+        requires whole { ⌜ Whole (S·Map .meaning) (now self) ⌝ }
+        requires stand { ⌜ (stands (plain-of (S·Map .meaning) (now self)) a ≡ true) × (stands (plain-of (S·Map .meaning) (now self)) b ≡ true) ⌝ }
+        ensures ups { λ r. ⌜ ((u : ℕ) → has (r .0) u ≡ hears (plain-of (S·Map .meaning) (now (self .entry))) a u) ⌝ }
+        ensures downs { λ r. ⌜ ((u : ℕ) → has (r .1) u ≡ hears (plain-of (S·Map .meaning) (now (self .entry))) u b) ⌝ }
+    {
+        let order = self.ranks.as_slice();
+        (self.labels.heard(order, a), self.labels.hearers(order, b))
+    }
+
     // Mends the labels after the store and the ranks have changed.
     fn mend_labels(&mut self, ups: &UnitSet, downs: &UnitSet) -> u32
         requires { ⌜ Orders (S·Map .meaning (now self .store)) (order-of (now self .ranks)) ⌝ }
@@ -183,8 +196,7 @@ impl<S: Store> Book<S> {
         ensures kept { λ r. ⌜ ((cause : BookFault) → r ≡ Err cause → now (self .exit) ≡ now (self .entry)) ⌝ }
     {
         self.check_pair(a, b)?;
-        let ups = self.labels.heard(self.ranks.as_slice(), a);
-        let downs = self.labels.hearers(self.ranks.as_slice(), b);
+        let (ups, downs) = self.touched(a, b);
         self.store.join(a, b)?;
         Ok(self.mend_labels(&ups, &downs))
     }
@@ -197,8 +209,7 @@ impl<S: Store> Book<S> {
         ensures kept { λ r. ⌜ ((cause : BookFault) → r ≡ Err cause → now (self .exit) ≡ now (self .entry)) ⌝ }
     {
         self.check_unpair(a, b)?;
-        let ups = self.labels.heard(self.ranks.as_slice(), a);
-        let downs = self.labels.hearers(self.ranks.as_slice(), b);
+        let (ups, downs) = self.touched(a, b);
         self.store.part(a, b)?;
         Ok(self.mend_labels(&ups, &downs))
     }
@@ -222,8 +233,7 @@ impl<S: Store> Book<S> {
         ensures kept { λ r. ⌜ ((cause : BookFault) → r ≡ Err cause → now (self .exit) ≡ now (self .entry)) ⌝ }
     {
         self.check_unit(v)?;
-        let ups = self.labels.heard(self.ranks.as_slice(), v);
-        let downs = self.labels.hearers(self.ranks.as_slice(), v);
+        let (ups, downs) = self.touched(v, v);
         self.store.take(v)?;
         self.ranks.remove(v);
         Ok(self.mend_labels(&ups, &downs))
@@ -237,8 +247,7 @@ impl<S: Store> Book<S> {
         ensures kept { λ r. ⌜ ((cause : BookFault) → r ≡ Err cause → now (self .exit) ≡ now (self .entry)) ⌝ }
     {
         self.check_rank(v, k)?;
-        let ups = self.labels.heard(self.ranks.as_slice(), v);
-        let downs = self.labels.hearers(self.ranks.as_slice(), v);
+        let (ups, downs) = self.touched(v, v);
         self.ranks.move_to(k - 1, v);
         Ok(self.mend_labels(&ups, &downs))
     }

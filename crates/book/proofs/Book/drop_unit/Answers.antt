@@ -8,8 +8,8 @@ use Rattle.plain.specs.Requests.{Drop, checks, unknown}
 use Rattle.book.specs.Views.{plain-by}
 use Rattle.book.proofs.Agree.{keeps}
 use Rattle.book.proofs.Answering.{no-cause}
-use Rattle.book.proofs.Changing.{AllAbsent, all-absent, refused, not-refused, mended-at, asked-at}
-use Rattle.book.proofs.Moving.{known, drop-done, orders-at}
+use Rattle.book.proofs.Changing.{AllAbsent, all-absent, refused, not-refused, mended-at}
+use Rattle.book.proofs.Moving.{one-known, drop-done, orders-at}
 use Rattle.book.proofs.Book.drop_unit.Needs as need
 
 pub returns-in-Break-check-unit : need.returns-in-Break-check-unit
@@ -19,6 +19,14 @@ returns-in-Break-check-unit g c = record {
   whole = c .pre;
   kept = λ cause e. refl;
 }
+
+pub touched-requires : need.touched-requires
+touched-requires g c κs =
+    let m = g .S·Map .meaning (c .args .self .now .store) in
+    let order = order-of (c .args .self .now .ranks) in
+    let passed = no-cause _ (tt {0}) (c .in-Continue-check-unit .ensures tt) in
+    let there = one-known order (c .args .v) (all-absent (unknown (plain-by m order) (c .args .v ∷ []) ∷ []) passed .0) in
+    record { whole = c .pre; stand = (there, there) }
 
 pub mend-labels-requires : need.mend-labels-requires
 mend-labels-requires g c κs =
@@ -33,10 +41,7 @@ returns g c =
     let order = order-of (c .args .self .now .ranks) in
     let k = keeps m order (c .args .self .now .labels) (c .pre) in
     let passed = no-cause _ (tt {0}) (c .in-Continue-check-unit .ensures tt) in
-    let unit = known m order (c .args .self .now .labels) k (c .args .v) (all-absent (unknown (plain-by m order) (c .args .v ∷ []) ∷ []) passed .0) in
-    let ups = c .heard-ups .ensures m (asked-at m order _ (c .args .self .now .labels) k (c .as-slice .ensures)) unit in
-    let downs = c .hearers-downs .ensures m (asked-at m order _ (c .args .self .now .labels) k (c .as-slice-2 .ensures)) unit in
-    let done = drop-done m order (c .args .self .now .labels) k (c .args .v) (g .S·Store .room) passed (c .heard-ups .result) (c .hearers-downs .result) ups downs
+    let done = drop-done m order (c .args .self .now .labels) k (c .args .v) (g .S·Store .room) passed (c .touched .result .0) (c .touched .result .1) (c .touched .ensures .ups) (c .touched .ensures .downs)
     (c .mend-labels .last .self .labels) (c .mend-labels .result) (g .S·Map .meaning (c .mend-labels .last .self .store)) (order-of (c .mend-labels .last .self .ranks))
     (mended-at _ (without-unit (c .args .v) m) _ (removed (c .args .v) order) _ _ _ _ _ (c .in-Continue-take .ensures tt .1) (c .remove .ensures) (c .mend-labels .ensures .mended))
     (ap (g .S·Map .meaning) (c .mend-labels .ensures .store) ∙ (c .in-Continue-take .ensures tt .1)) (ap order-of (c .mend-labels .ensures .ranks) ∙ c .remove .ensures) in

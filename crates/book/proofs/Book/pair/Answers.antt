@@ -7,7 +7,7 @@ use Rattle.plain.specs.Requests.{Pair, checks, pair-checks}
 use Rattle.book.specs.Views.{plain-by}
 use Rattle.book.proofs.Agree.{keeps}
 use Rattle.book.proofs.Answering.{no-cause}
-use Rattle.book.proofs.Changing.{AllAbsent, all-absent, refused, not-refused, mended-at, asked-at}
+use Rattle.book.proofs.Changing.{AllAbsent, all-absent, refused, not-refused, mended-at}
 use Rattle.book.proofs.Pairing.{both-known, pair-done, join-granted}
 use Rattle.book.proofs.Book.pair.Needs as need
 
@@ -25,17 +25,21 @@ returns-in-Break-join g c =
     let none = join-granted (g .S·Store .room) _ _ _ k (c .args .a) (c .args .b) (no-cause _ (tt {0}) (c .in-Continue-check-pair .ensures tt)) in
     absurd (let z : _≡_ {A = ℕ} 0 1 = cc (none, c .in-Break-join .ensures tt .0) in omega arith)
 
+pub touched-requires : need.touched-requires
+touched-requires g c κs =
+    let m = g .S·Map .meaning (c .args .self .now .store) in
+    let order = order-of (c .args .self .now .ranks) in
+    let passed = no-cause _ (tt {0}) (c .in-Continue-check-pair .ensures tt) in
+    record { whole = c .pre; stand = both-known order (c .args .a) (c .args .b) (all-absent (pair-checks (g .S·Store .room) (plain-by m order) (c .args .a) (c .args .b)) passed .0) }
+
 pub returns : need.returns
 returns g c =
     let m = g .S·Map .meaning (c .args .self .now .store) in
     let order = order-of (c .args .self .now .ranks) in
     let k = keeps m order (c .args .self .now .labels) (c .pre) in
     let passed = no-cause _ (tt {0}) (c .in-Continue-check-pair .ensures tt) in
-    let known = both-known m order (k .orders) (c .args .a) (c .args .b) (all-absent (pair-checks (g .S·Store .room) (plain-by m order) (c .args .a) (c .args .b)) passed .0) in
-    let ups = c .heard-ups .ensures m (asked-at m order _ (c .args .self .now .labels) k (c .as-slice .ensures)) (known .0) in
-    let downs = c .hearers-downs .ensures m (asked-at m order _ (c .args .self .now .labels) k (c .as-slice-2 .ensures)) (known .1) in
     let left = c .in-Continue-join .ensures tt .1 in
-    let done = pair-done (g .S·Store .room) m order (c .args .self .now .labels) k (c .args .a) (c .args .b) passed (c .heard-ups .result) (c .hearers-downs .result) ups downs
+    let done = pair-done (g .S·Store .room) m order (c .args .self .now .labels) k (c .args .a) (c .args .b) passed (c .touched .result .0) (c .touched .result .1) (c .touched .ensures .ups) (c .touched .ensures .downs)
     (c .mend-labels .last .self .labels) (c .mend-labels .result) (g .S·Map .meaning (c .mend-labels .last .self .store)) (order-of (c .mend-labels .last .self .ranks))
     (mended-at _ (with-pair (c .args .a) (c .args .b) m) _ order _ _ _ _ _ left refl (c .mend-labels .ensures .mended))
     (ap (g .S·Map .meaning) (c .mend-labels .ensures .store) ∙ left) (ap order-of (c .mend-labels .ensures .ranks)) in

@@ -8,8 +8,9 @@ use Rattle.plain.specs.Requests.{Rank, checks, rank-checks}
 use Rattle.book.specs.Views.{plain-by}
 use Rattle.book.proofs.Agree.{keeps}
 use Rattle.book.proofs.Answering.{no-cause}
-use Rattle.book.proofs.Changing.{AllAbsent, all-absent, refused, not-refused, mended-at, asked-at}
-use Rattle.book.proofs.Moving.{known, rank-done, orders-at}
+use Rattle.book.proofs.Changing.{AllAbsent, all-absent, refused, not-refused, mended-at}
+use Rattle.book.proofs.Pairing.{in-order}
+use Rattle.book.proofs.Moving.{one-known, rank-done, orders-at}
 use Rattle.book.proofs.Book.rank.Needs as need
 
 pub returns-in-Break-check-rank : need.returns-in-Break-check-rank
@@ -20,13 +21,21 @@ returns-in-Break-check-rank g c = record {
   kept = λ cause e. refl;
 }
 
+pub touched-requires : need.touched-requires
+touched-requires g c κs =
+    let m = g .S·Map .meaning (c .args .self .now .store) in
+    let order = order-of (c .args .self .now .ranks) in
+    let passed = no-cause _ (tt {0}) (c .in-Continue-check-rank .ensures tt) in
+    let there = one-known order (c .args .v) (all-absent (rank-checks (plain-by m order) (c .args .v) (c .args .k)) passed .0) in
+    record { whole = c .pre; stand = (there, there) }
+
 pub mend-labels-requires : need.mend-labels-requires
 mend-labels-requires g c κs =
     let m = g .S·Map .meaning (c .args .self .now .store) in
     let order = order-of (c .args .self .now .ranks) in
     let k = keeps m order (c .args .self .now .labels) (c .pre) in
     let passed = no-cause _ (tt {0}) (c .in-Continue-check-rank .ensures tt) in
-    let unit = known m order (c .args .self .now .labels) k (c .args .v) (all-absent (rank-checks (plain-by m order) (c .args .v) (c .args .k)) passed .0) in
+    let unit = in-order m order (k .orders) (c .args .v) (one-known order (c .args .v) (all-absent (rank-checks (plain-by m order) (c .args .v) (c .args .k)) passed .0)) in
     orders-at _ _ _ _ refl (c .move-to .ensures) (rank-orders m order (k .orders) (c .args .v) unit (c .args .k - 1))
 
 pub returns : need.returns
@@ -35,10 +44,7 @@ returns g c =
     let order = order-of (c .args .self .now .ranks) in
     let k = keeps m order (c .args .self .now .labels) (c .pre) in
     let passed = no-cause _ (tt {0}) (c .in-Continue-check-rank .ensures tt) in
-    let unit = known m order (c .args .self .now .labels) k (c .args .v) (all-absent (rank-checks (plain-by m order) (c .args .v) (c .args .k)) passed .0) in
-    let ups = c .heard-ups .ensures m (asked-at m order _ (c .args .self .now .labels) k (c .as-slice .ensures)) unit in
-    let downs = c .hearers-downs .ensures m (asked-at m order _ (c .args .self .now .labels) k (c .as-slice-2 .ensures)) unit in
-    let done = rank-done m order (c .args .self .now .labels) k (c .args .v) (g .S·Store .room) (c .args .k) passed (c .heard-ups .result) (c .hearers-downs .result) ups downs
+    let done = rank-done m order (c .args .self .now .labels) k (c .args .v) (g .S·Store .room) (c .args .k) passed (c .touched .result .0) (c .touched .result .1) (c .touched .ensures .ups) (c .touched .ensures .downs)
     (c .mend-labels .last .self .labels) (c .mend-labels .result) (g .S·Map .meaning (c .mend-labels .last .self .store)) (order-of (c .mend-labels .last .self .ranks))
     (mended-at _ (m) _ (moved (c .args .k - 1) (c .args .v) order) _ _ _ _ _ refl (c .move-to .ensures) (c .mend-labels .ensures .mended))
     (ap (g .S·Map .meaning) (c .mend-labels .ensures .store)) (ap order-of (c .mend-labels .ensures .ranks) ∙ c .move-to .ensures) in

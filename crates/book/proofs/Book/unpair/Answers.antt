@@ -7,7 +7,7 @@ use Rattle.plain.specs.Requests.{Unpair, checks, unpair-checks}
 use Rattle.book.specs.Views.{plain-by}
 use Rattle.book.proofs.Agree.{keeps}
 use Rattle.book.proofs.Answering.{no-cause}
-use Rattle.book.proofs.Changing.{AllAbsent, all-absent, refused, not-refused, mended-at, asked-at}
+use Rattle.book.proofs.Changing.{AllAbsent, all-absent, refused, not-refused, mended-at}
 use Rattle.book.proofs.Pairing.{both-known, unpair-done}
 use Rattle.book.proofs.Book.unpair.Needs as need
 
@@ -19,17 +19,21 @@ returns-in-Break-check-unpair g c = record {
   kept = λ cause e. refl;
 }
 
+pub touched-requires : need.touched-requires
+touched-requires g c κs =
+    let m = g .S·Map .meaning (c .args .self .now .store) in
+    let order = order-of (c .args .self .now .ranks) in
+    let passed = no-cause _ (tt {0}) (c .in-Continue-check-unpair .ensures tt) in
+    record { whole = c .pre; stand = both-known order (c .args .a) (c .args .b) (all-absent (unpair-checks (plain-by m order) (c .args .a) (c .args .b)) passed .0) }
+
 pub returns : need.returns
 returns g c =
     let m = g .S·Map .meaning (c .args .self .now .store) in
     let order = order-of (c .args .self .now .ranks) in
     let k = keeps m order (c .args .self .now .labels) (c .pre) in
     let passed = no-cause _ (tt {0}) (c .in-Continue-check-unpair .ensures tt) in
-    let known = both-known m order (k .orders) (c .args .a) (c .args .b) (all-absent (unpair-checks (plain-by m order) (c .args .a) (c .args .b)) passed .0) in
-    let ups = c .heard-ups .ensures m (asked-at m order _ (c .args .self .now .labels) k (c .as-slice .ensures)) (known .0) in
-    let downs = c .hearers-downs .ensures m (asked-at m order _ (c .args .self .now .labels) k (c .as-slice-2 .ensures)) (known .1) in
     let left = c .in-Continue-part .ensures tt .1 in
-    let done = unpair-done (g .S·Store .room) m order (c .args .self .now .labels) k (c .args .a) (c .args .b) passed (c .heard-ups .result) (c .hearers-downs .result) ups downs
+    let done = unpair-done (g .S·Store .room) m order (c .args .self .now .labels) k (c .args .a) (c .args .b) passed (c .touched .result .0) (c .touched .result .1) (c .touched .ensures .ups) (c .touched .ensures .downs)
     (c .mend-labels .last .self .labels) (c .mend-labels .result) (g .S·Map .meaning (c .mend-labels .last .self .store)) (order-of (c .mend-labels .last .self .ranks))
     (mended-at _ (without-pair (c .args .a) (c .args .b) m) _ order _ _ _ _ _ left refl (c .mend-labels .ensures .mended))
     (ap (g .S·Map .meaning) (c .mend-labels .ensures .store) ∙ left) (ap order-of (c .mend-labels .ensures .ranks)) in
