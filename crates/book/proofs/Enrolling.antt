@@ -27,7 +27,7 @@ use Rattle.labels.specs.declared.Labels.{Labels}
 use Rattle.labels.specs.Asked.{Kept}
 use Rattle.mending.specs.Mended.{Mended}
 use Rattle.plain.specs.Plain.{map-of, hears}
-use Rattle.plain.specs.Pages.{some, doubled}
+use Rattle.plain.specs.Lists.{some, doubled}
 use Rattle.plain.specs.Requests.{Enrol, checks, granted, first-cause, enrol-checks}
 use Rattle.plain.proofs.Some.{some-on, some-append}
 use Rattle.book.specs.Views.{plain-by, Agrees}

@@ -12,7 +12,7 @@ ghost use Rattle.ranks.specs.Orders.{order-of};
 ghost use Rattle.mending.specs.Mended.{Mended};
 ghost use Rattle.theory.specs.Lists.{inLabels, outLabels, inHolders, outHolders};
 ghost use Rattle.plain.specs.Plain.{map-of, empty, hears};
-ghost use Rattle.plain.specs.Pages.{some, doubled};
+ghost use Rattle.plain.specs.Lists.{some, doubled};
 ghost use Rattle.plain.specs.Requests.{Hear, Enrol, Pair, Unpair, Drop, Rank, enrol-checks, partners, rank-checks, pair-checks, unpair-checks, InLabels, OutLabels, InHolders, OutHolders, first-cause, unknown, stands, verdict};
 ghost use Rattle.book.specs.Views.{plain-of, Whole};
 ghost use Rattle.book.specs.Answers.{answered, ByChains, Lists, Applied, fault-of};

@@ -10,7 +10,7 @@ use Rattle.std.proofs.shelf.Lists.{at-drop-more, at-drop-all}
 use Rattle.std.proofs.shelf.Tests.{or-left}
 use Rattle.std.proofs.shelf.Ways.{tells}
 use Rattle.theory.specs.Maps.{listed}
-use Rattle.plain.specs.Pages.{some, doubled}
+use Rattle.plain.specs.Lists.{some, doubled}
 
 -- the test p of a unit of the list
 module _ (p : ℕ → Bool) (xs : List ℕ) (i : ℕ) (whole : Bool) (inv : some p (drop i xs) ≡ whole) where

@@ -20,7 +20,7 @@ use Rattle.theory.proofs.Maps.{same-map, with-unit-sound}
 use Rattle.theory.proofs.Counting.{other-pair, pair-count-with, pair-count-same}
 use Rattle.theory.proofs.Distinct.{off-from-listed}
 use Rattle.theory.proofs.Frames.{with-pair-sound}
-use Rattle.plain.specs.Pages.{some, doubled}
+use Rattle.plain.specs.Lists.{some, doubled}
 use Rattle.maps.specs.Changes.{join-cause}
 use Rattle.partners.specs.Joins.{joined, Joinable}
 

@@ -9,7 +9,7 @@ use lib.ListN.{length}
 use Rattle.theory.specs.Maps.{Map, with-pair}
 use Rattle.theory.specs.Chains.{On}
 use Rattle.theory.specs.Counts.{pair-count}
-use Rattle.plain.specs.Pages.{doubled}
+use Rattle.plain.specs.Lists.{doubled}
 
 -- For each unit u of the list, the pairing of a u to b u besides.
 abbrev pub joined : (ℕ → ℕ) → (ℕ → ℕ) → List ℕ → Map → Map

@@ -7,7 +7,7 @@ ghost use Rattle.std.specs.declared.result.Result.the-variants.{Ok};
 ghost use Rattle.theory.specs.Maps.{enrolled};
 ghost use Rattle.theory.specs.Counts.{pair-count};
 ghost use Rattle.theory.specs.Changes.{New};
-ghost use Rattle.plain.specs.Pages.{doubled};
+ghost use Rattle.plain.specs.Lists.{doubled};
 ghost use Rattle.partners.specs.Joins.{joined, Joinable};
 use maps::Map;
 use maps::Store;

@@ -8,7 +8,7 @@ ghost use Rattle.units.specs.Has.{has};
 ghost use Rattle.theory.specs.Maps.{Map, listed};
 ghost use Rattle.theory.specs.Chains.{On};
 ghost use Rattle.theory.specs.Hearing.{isHeard};
-ghost use Rattle.plain.specs.Pages.{some, doubled};
+ghost use Rattle.plain.specs.Lists.{some, doubled};
 ghost use Rattle.ranks.specs.Orders.{order-of};
 ghost use Rattle.labels.specs.Asked.{Kept};
 use labels::Labels;

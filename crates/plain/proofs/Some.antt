@@ -7,7 +7,7 @@ use Prim.Native.Nat.{ℕ}
 use lib.Dec.{T}
 use Rattle.theory.specs.Chains.{On}
 use Rattle.theory.proofs.Tests.{or-either, or-fst, or-snd}
-use Rattle.plain.specs.Pages.{some}
+use Rattle.plain.specs.Lists.{some}
 
 pub some-on : (f : ℕ → Bool) (xs : List ℕ) → T (some f xs) ↔ ((x : ℕ) × On x xs × T (f x))
 some-on f [] = (λ t. absurd t, λ s. s .1)

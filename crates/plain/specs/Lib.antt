@@ -1,4 +1,5 @@
 pub mod Faults
 pub mod Plain
+pub mod Lists
 pub mod Pages
 pub mod Requests

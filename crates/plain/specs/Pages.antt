@@ -2,37 +2,15 @@
 -- Byte 0 is 1, byte 1 is n, bytes 2 and 3 are m, low byte first. Then come n unit records in rank order, of three bytes each: the number, and the
 -- index of its first pairing record, low byte first, 0 for none. Then come m pairing records, of three bytes each: the listener, and the index of
 -- the next record of the chain, low byte first, 0 at its end. Pairing records are numbered from 1.
-use mathlib.Core.Bool.{Bool, true, false, not, cond, _&&_, _||_}
+use mathlib.Core.Bool.{Bool, not, cond, _&&_}
 use mathlib.Core.List.{List, [], _∷_, _++_}
 use Prim.Native.Nat.{ℕ, zero, suc, _+_, _-_, _*_}
 use lib.Dec.{eqb, leb}
 use lib.ListN.{length, getD}
 use Rattle.theory.specs.Maps.{listed}
 use Rattle.theory.specs.Hearing.{isHeard}
+use Rattle.plain.specs.Lists.{every, some, doubled, numbers, each}
 use Rattle.plain.specs.Plain.{Plain, map-of}
-
--- A test that passes at every number of a list, and one that passes at some.
-abbrev pub every : (ℕ → Bool) → List ℕ → Bool
-every test [] = true
-every test (x ∷ xs) = test x && every test xs
-
-abbrev pub some : (ℕ → Bool) → List ℕ → Bool
-some test [] = false
-some test (x ∷ xs) = test x || some test xs
-
--- A number stands twice in the list.
-abbrev pub doubled : List ℕ → Bool
-doubled [] = false
-doubled (x ∷ xs) = listed x xs || doubled xs
-
--- The numbers from `from` on, so many.
-abbrev pub numbers : ℕ → ℕ → List ℕ
-numbers from zero = []
-numbers from (suc many) = from ∷ numbers (suc from) many
-
-abbrev pub each : (ℕ → ℕ) → List ℕ → List ℕ
-each f [] = []
-each f (x ∷ xs) = f x ∷ each f xs
 
 -- Two bytes, the low one first.
 abbrev pub word : List ℕ → ℕ → ℕ

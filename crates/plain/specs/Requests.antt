@@ -14,7 +14,8 @@ use Rattle.theory.specs.Lists.{inLabels, outLabels, inHolders, outHolders}
 use Rattle.plain.specs.declared.BookFault.{BookFault}
 use Rattle.plain.specs.declared.BookFault.the-variants as fault
 use Rattle.plain.specs.Plain.{Plain, map-of, empty, hears}
-use Rattle.plain.specs.Pages.{every, some, doubled, lawful-page, page-book, has-ring}
+use Rattle.plain.specs.Lists.{every, some, doubled}
+use Rattle.plain.specs.Pages.{lawful-page, page-book, has-ring}
 
 -- Ranks are counted from 1. `room` is the length of the buffer that is lent.
 pub data Request : Type 0 where

@@ -4,7 +4,7 @@ use mathlib.Core.Bool.{not}
 use lib.ListN.{drop}
 use Rattle.theory.specs.Maps.{listed}
 use Rattle.ranks.specs.Orders.{order-of}
-use Rattle.plain.specs.Pages.{some}
+use Rattle.plain.specs.Lists.{some}
 use Rattle.partners.proofs.all_known.Given as given
 
 abbrev pub Inv-loop-u : given.InvT-loop-u

@@ -2,7 +2,7 @@
 use mathlib.Core.Path.{sym, ap}
 use mathlib.Core.Bool.{_||_}
 use Rattle.units.specs.Has.{has}
-use Rattle.plain.specs.Pages.{doubled}
+use Rattle.plain.specs.Lists.{doubled}
 use Rattle.partners.proofs.Found.{some-none, seen-again, seen-more, seen-all}
 use Rattle.partners.proofs.any_doubled.Needs as need
 

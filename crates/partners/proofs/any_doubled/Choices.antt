@@ -2,7 +2,7 @@
 use mathlib.Core.Path.{_≡_}
 use lib.ListN.{drop}
 use Rattle.units.specs.Has.{has}
-use Rattle.plain.specs.Pages.{doubled}
+use Rattle.plain.specs.Lists.{doubled}
 use Rattle.partners.proofs.Found.{again}
 use Rattle.partners.proofs.any_doubled.Given as given
 

@@ -2,7 +2,7 @@
 use mathlib.Core.Path.{_≡_}
 use lib.ListN.{drop}
 use Rattle.units.specs.Has.{has}
-use Rattle.plain.specs.Pages.{some}
+use Rattle.plain.specs.Lists.{some}
 use Rattle.partners.proofs.any_member.Given as given
 
 abbrev pub Inv-loop-u : given.InvT-loop-u

@@ -4,7 +4,7 @@ use mathlib.Core.Bool.{_||_}
 use Rattle.units.specs.Has.{has}
 use Rattle.theory.specs.Hearing.{isHeard}
 use Rattle.theory.proofs.Distinct.{on-at}
-use Rattle.plain.specs.Pages.{some}
+use Rattle.plain.specs.Lists.{some}
 use Rattle.labels.proofs.Gathered.{gathered-more, gathered-end}
 use Rattle.partners.proofs.hearers_of.Needs as need
 

@@ -8,7 +8,7 @@ use Rattle.units.specs.Has.{has}
 use Rattle.theory.specs.Maps.{Map}
 use Rattle.theory.specs.Chains.{On}
 use Rattle.theory.specs.Hearing.{isHeard}
-use Rattle.plain.specs.Pages.{some}
+use Rattle.plain.specs.Lists.{some}
 use Rattle.labels.specs.Asked.{Kept}
 use Rattle.partners.proofs.hearers_of.Given as given
 

@@ -6,7 +6,7 @@ use Rattle.theory.specs.Hearing.{isHeard}
 use Rattle.theory.specs.Ranks.{inserted}
 use Rattle.theory.proofs.Enrols.{enrol-orders}
 use Rattle.ranks.specs.Orders.{order-of}
-use Rattle.plain.specs.Pages.{some}
+use Rattle.plain.specs.Lists.{some}
 use Rattle.plain.specs.Requests.{Enrol, checks}
 use Rattle.book.proofs.Agree.{keeps}
 use Rattle.book.proofs.Answering.{no-cause}
