@@ -6,12 +6,12 @@ use mathlib.Core.List.{List, [], _∷_}
 use Prim.Native.Nat.{ℕ, zero, suc, _+_, _-_, _*_, _/_, _%_, _^_, _≤_, _<_}
 use native.Mathlib.Omega.{arith}
 use lib.Dec.{eqb, ltb, lit<}
-use lib.Bits.{bitAnd, bitOr, bitXor, and-mask, or-lt}
+use lib.Bits.{bitAnd, bitOr, bitXor}
 use lib.ListN.{length, getD, set}
 use lib.Seq.{getD-set-same, getD-set-other}
 use Rattle.std.proofs.shelf.Tests.{both-ways, lt-ltb, le-ltb, cases-lt, ltb-true, eqb-true, ne-eqb, eq-eqb, cases-eq, cases-bool, and-left, or-parts, or-cases}
-use Rattle.std.proofs.shelf.Bits.{one-shl, pow-below}
-use Rattle.units.specs.Bit.{bit, member}
+use Rattle.std.proofs.shelf.Bits.{pow-below}
+use Rattle.units.specs.Bit.{bit, member, lacking, each-word, joined}
 use Rattle.units.proofs.Bits.{bit-or, bit-and, bit-xor, bit-pow, bit-not, bit-zero, bit-add, bit-past, same-eqb, at-trailing, below-trailing}
 use Rattle.units.specs.Sets.{Inhabited, Least}
 use Rattle.std.specs.declared.option.Option.the-variants.{Some, None}
@@ -21,11 +21,6 @@ use lib.Count.{trailingZeros}
 pub member-read : (ws : List ℕ) (u : ℕ) → u < 256 → member ws u ≡ bit (getD ws (u / 64) 0) (u % 64)
 unfolding member
 member-read ws u h = ap (λ b. b && bit (getD ws (u / 64) 0) (u % 64)) (lt-ltb u 256 h)
-
--- `(word >> b) & 1 == 1`
-pub bit-test : (n k : ℕ) → eqb (bitAnd (n / 2 ^ k) 1) 1 ≡ bit n k
-unfolding bit
-bit-test n k = ap (λ (x : ℕ). eqb x 1) (and-mask (n / 2 ^ k) 1)
 
 and-false : (b : Bool) → (b && false) ≡ false
 and-false true = refl
@@ -59,10 +54,6 @@ member-other ws i v k n = ap (λ (x : ℕ). ltb k 256 && bit x (k % 64)) (getD-s
 same-place : (k u : ℕ) → k / 64 ≡ u / 64 → eqb (k % 64) (u % 64) ≡ eqb k u
 same-place k u h = same-eqb (k % 64) (u % 64) k u (λ e. omega arith) (λ e. ap (λ (x : ℕ). x % 64) e)
 
--- the mask `1 << (u % 64)`
-mask : (u : ℕ) → (1 * 2 ^ (u % 64)) % 18446744073709551616 ≡ 2 ^ (u % 64)
-mask u = one-shl (u % 64) 64 (omega arith)
-
 swap-or : (t x e : Bool) → (e ≡ true → t ≡ true) → (t && (x || e)) ≡ (e || (t && x))
 swap-or true true true h = refl
 swap-or true true false h = refl
@@ -87,12 +78,11 @@ apart : (k u : ℕ) → (k / 64 ≡ u / 64 → ⊥) → eqb k u ≡ false
 apart k u n = elim (cases-eq k u) [ inl e ↦ absurd (n (ap (λ (x : ℕ). x / 64) e)) | inr d ↦ ne-eqb k u d ]
 
 pub member-insert : (ws : List ℕ) (u : ℕ) → length ws ≡ 4 → u < 256
-    → (k : ℕ) → member (set ws (u / 64) (bitOr (getD ws (u / 64) 0) ((1 * 2 ^ (u % 64)) % 18446744073709551616))) k ≡ (eqb k u || member ws k)
+    → (k : ℕ) → member (set ws (u / 64) (bitOr (getD ws (u / 64) 0) (2 ^ (u % 64)))) k ≡ (eqb k u || member ws k)
 unfolding member
 member-insert ws u l h k = elim (cases-eq (k / 64) (u / 64)) [
   | inl e ↦
       member-same ws (u / 64) _ k (omega arith) e
-      ∙ ap (λ (m : ℕ). ltb k 256 && bit (bitOr (getD ws (u / 64) 0) m) (k % 64)) (mask u)
       ∙ ap (λ b. ltb k 256 && b) (bit-or (getD ws (u / 64) 0) (2 ^ (u % 64)) (k % 64))
       ∙ ap (λ b. ltb k 256 && (bit (getD ws (u / 64) 0) (k % 64) || b)) (bit-pow (u % 64) (k % 64) ∙ same-place k u e)
       ∙ swap-or (ltb k 256) (bit (getD ws (u / 64) 0) (k % 64)) (eqb k u) (below-256 k u h)
@@ -101,12 +91,11 @@ member-insert ws u l h k = elim (cases-eq (k / 64) (u / 64)) [
 ]
 
 pub member-remove : (ws : List ℕ) (u : ℕ) → length ws ≡ 4 → u < 256
-    → (k : ℕ) → member (set ws (u / 64) (bitAnd (getD ws (u / 64) 0) (18446744073709551615 - (1 * 2 ^ (u % 64)) % 18446744073709551616))) k ≡ (not (eqb k u) && member ws k)
+    → (k : ℕ) → member (set ws (u / 64) (lacking (getD ws (u / 64) 0) (2 ^ (u % 64)))) k ≡ (not (eqb k u) && member ws k)
 unfolding member
 member-remove ws u l h k = elim (cases-eq (k / 64) (u / 64)) [
   | inl e ↦
       member-same ws (u / 64) _ k (omega arith) e
-      ∙ ap (λ (m : ℕ). ltb k 256 && bit (bitAnd (getD ws (u / 64) 0) (18446744073709551615 - m)) (k % 64)) (mask u)
       ∙ ap (λ b. ltb k 256 && b) (bit-and (getD ws (u / 64) 0) (18446744073709551615 - 2 ^ (u % 64)) (k % 64))
       ∙ ap (λ b. ltb k 256 && (bit (getD ws (u / 64) 0) (k % 64) && b)) (not-mask ∙ ap not (same-place k u e))
       ∙ swap-not (ltb k 256) (bit (getD ws (u / 64) 0) (k % 64)) (eqb k u)
@@ -147,35 +136,27 @@ module _ (xs ys : List ℕ) (op : ℕ → ℕ → ℕ) (g : Bool → Bool → Bo
   spread false x y = sym off
 
   pub member-made : ((i j : ℕ) → i < 4 → j < 64 → bit (op (getD xs i 0) (getD ys i 0)) j ≡ g (bit (getD xs i 0) j) (bit (getD ys i 0) j))
-      → (k : ℕ) → member (op (getD xs 0 0) (getD ys 0 0) ∷ op (getD xs 1 0) (getD ys 1 0) ∷ op (getD xs 2 0) (getD ys 2 0) ∷ op (getD xs 3 0) (getD ys 3 0) ∷ []) k
-      ≡ g (member xs k) (member ys k)
+      → (k : ℕ) → member (each-word op xs ys) k ≡ g (member xs k) (member ys k)
   unfolding member
   member-made each k =
       member-four (λ i. op (getD xs i 0) (getD ys i 0)) (λ k. g (bit (getD xs (k / 64) 0) (k % 64)) (bit (getD ys (k / 64) 0) (k % 64)))
       (λ k h. each (k / 64) (k % 64) (omega arith) (omega arith)) k
       ∙ spread (ltb k 256) _ _
 
-pub member-union : (xs ys : List ℕ) (k : ℕ)
-    → member (bitOr (getD xs 0 0) (getD ys 0 0) ∷ bitOr (getD xs 1 0) (getD ys 1 0) ∷ bitOr (getD xs 2 0) (getD ys 2 0) ∷ bitOr (getD xs 3 0) (getD ys 3 0) ∷ []) k
-    ≡ (member xs k || member ys k)
+pub member-union : (xs ys : List ℕ) (k : ℕ) → member (each-word bitOr xs ys) k ≡ (member xs k || member ys k)
 member-union xs ys = member-made xs ys bitOr _||_ refl (λ i j hi hj. bit-or (getD xs i 0) (getD ys i 0) j)
 
-pub member-intersection : (xs ys : List ℕ) (k : ℕ)
-    → member (bitAnd (getD xs 0 0) (getD ys 0 0) ∷ bitAnd (getD xs 1 0) (getD ys 1 0) ∷ bitAnd (getD xs 2 0) (getD ys 2 0) ∷ bitAnd (getD xs 3 0) (getD ys 3 0) ∷ []) k
-    ≡ (member xs k && member ys k)
+pub member-intersection : (xs ys : List ℕ) (k : ℕ) → member (each-word bitAnd xs ys) k ≡ (member xs k && member ys k)
 member-intersection xs ys = member-made xs ys bitAnd _&&_ refl (λ i j hi hj. bit-and (getD xs i 0) (getD ys i 0) j)
 
-pub member-difference : (xs ys : List ℕ) (k : ℕ)
-    → member (bitXor (getD xs 0 0) (getD ys 0 0) ∷ bitXor (getD xs 1 0) (getD ys 1 0) ∷ bitXor (getD xs 2 0) (getD ys 2 0) ∷ bitXor (getD xs 3 0) (getD ys 3 0) ∷ []) k
-    ≡ xor (member xs k) (member ys k)
+pub member-difference : (xs ys : List ℕ) (k : ℕ) → member (each-word bitXor xs ys) k ≡ xor (member xs k) (member ys k)
 unfolding xor
 member-difference xs ys = member-made xs ys bitXor xor refl (λ i j hi hj. bit-xor (getD xs i 0) (getD ys i 0) j)
 
 pub member-minus : (xs ys : List ℕ) → ((i : ℕ) → i < 4 → getD ys i 0 < 2 ^ 64) → (k : ℕ)
-    → member (bitAnd (getD xs 0 0) (18446744073709551615 - getD ys 0 0) ∷ bitAnd (getD xs 1 0) (18446744073709551615 - getD ys 1 0) ∷ bitAnd (getD xs 2 0) (18446744073709551615 - getD ys 2 0) ∷ bitAnd (getD xs 3 0) (18446744073709551615 - getD ys 3 0) ∷ []) k
-    ≡ (member xs k && not (member ys k))
+    → member (each-word lacking xs ys) k ≡ (member xs k && not (member ys k))
 member-minus xs ys fits =
-    member-made xs ys (λ x y. bitAnd x (18446744073709551615 - y)) (λ a b. a && not b) refl
+    member-made xs ys lacking (λ a b. a && not b) refl
     (λ i j hi hj. bit-and (getD xs i 0) _ j ∙ ap (λ b. bit (getD xs i 0) j && b) (bit-not 64 (getD ys i 0) j (fits i hi) hj))
 
 pub each-four : (P : ℕ → Type 0) → P 0 → P 1 → P 2 → P 3 → (i : ℕ) → i < 4 → P i
@@ -246,7 +227,7 @@ set-below n w k h e = elim (cases-lt k w) [ inl b ↦ b | inr p ↦ absurd (both
 
 module _ (xs : List ℕ) where
   abbrev all : ℕ
-  all = bitOr (bitOr (bitOr (getD xs 0 0) (getD xs 1 0)) (getD xs 2 0)) (getD xs 3 0)
+  all = joined xs
 
   bit-all : (j : ℕ) → bit all j ≡ (((bit (getD xs 0 0) j || bit (getD xs 1 0) j) || bit (getD xs 2 0) j) || bit (getD xs 3 0) j)
   bit-all j =
@@ -262,8 +243,8 @@ module _ (xs : List ℕ) where
       let r : (i * 64 + j) % 64 ≡ j = omega arith in
       (i * 64 + j, member-read xs (i * 64 + j) (omega arith) ∙ ap₂ (λ (a b : ℕ). bit (getD xs a 0) b) q r ∙ e)
 
-  pub inhabited : ((i : ℕ) → i < 4 → getD xs i 0 < 2 ^ 64) → Inhabited (not (eqb all 0)) (member xs)
-  inhabited fits = elim (cases-eq all 0) [
+  pub inhabited : all < 2 ^ 64 → Inhabited (not (eqb all 0)) (member xs)
+  inhabited small = elim (cases-eq all 0) [
     | inl e ↦
         let no-bit : (j : ℕ) → (((bit (getD xs 0 0) j || bit (getD xs 1 0) j) || bit (getD xs 2 0) j) || bit (getD xs 3 0) j) ≡ false = λ j. sym (bit-all j) ∙ ap (λ (x : ℕ). bit x j) e ∙ bit-zero j in
         subst (λ b. Inhabited (not b) (member xs)) (sym (eq-eqb all 0 e)) (none-in (λ i j h.
@@ -272,7 +253,7 @@ module _ (xs : List ℕ) where
         let p1 = or-parts _ _ (p2 .0) in
         each-four (λ i. bit (getD xs i 0) j ≡ false) (p1 .0) (p1 .1) (p2 .1) (p3 .1) i h))
     | inr n ↦
-        let t = at-trailing 64 all (omega (arith, n)) (or-lt 64 _ _ (or-lt 64 _ _ (or-lt 64 _ _ (fits 0 (lit< tt)) (fits 1 (lit< tt))) (fits 2 (lit< tt))) (fits 3 (lit< tt))) in
+        let t = at-trailing 64 all (omega (arith, n)) small in
         let j = trailingZeros 64 all in
         subst (λ b. Inhabited (not b) (member xs)) (sym (ne-eqb all 0 n)) (
         elim (or-cases _ _ (sym (bit-all j) ∙ t .1)) [

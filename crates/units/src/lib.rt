@@ -2,12 +2,14 @@
 // speaks of membership alone.
 ghost use mathlib.Core.Path.{_≡_};
 ghost use mathlib.Core.Bool.{false, not, xor, _&&_, _||_};
-ghost use Prim.Native.Nat.{ℕ, _+_, _<_, _≤_};
+ghost use Prim.Native.Nat.{ℕ, _+_, _/_, _%_, _^_, _<_, _≤_};
+ghost use lib.Bits.{bitAnd, bitOr, bitXor};
 ghost use lib.Count.{ones};
 ghost use lib.Dec.{eqb};
+ghost use lib.ListN.{replicate};
 ghost use Rattle.std.specs.Options.{Cases as BySome};
 ghost use Rattle.theory.specs.Counts.{count};
-ghost use Rattle.units.specs.Bit.{bit};
+ghost use Rattle.units.specs.Bit.{Fit, bit, each-word, joined, lacking};
 ghost use Rattle.units.specs.Has.{has, in-row};
 ghost use Rattle.units.specs.Sets.{Inhabited, Least};
 
@@ -20,36 +22,35 @@ impl UnitSet {
     pub fn empty() -> UnitSet
         ensures { λ r. ⌜ ((k : ℕ) → has r k ≡ false) ⌝ }
     {
-        UnitSet { words: [0; 4] }
+        UnitSet { words: zeros() }
     }
 
     pub fn contains(&self, u: u8) -> bool
         ensures { λ r. ⌜ r ≡ has (now (self .entry)) u ⌝ }
     {
-        let word = self.words[(u / 64) as usize];
-        (word >> (u % 64)) & 1 == 1
+        bit_at(self.words[(u / 64) as usize], u % 64)
     }
 
     pub fn insert(&mut self, u: u8)
         ensures { λ _. ⌜ ((k : ℕ) → has (now (self .exit)) k ≡ (eqb k u || has (now (self .entry)) k)) ⌝ }
     {
-        self.words[(u / 64) as usize] |= 1 << (u % 64);
+        let w = (u / 64) as usize;
+        self.words[w] = with_bit(self.words[w], u % 64);
     }
 
     pub fn remove(&mut self, u: u8)
         ensures { λ _. ⌜ ((k : ℕ) → has (now (self .exit)) k ≡ (not (eqb k u) && has (now (self .entry)) k)) ⌝ }
     {
-        self.words[(u / 64) as usize] &= !(1 << (u % 64));
+        let w = (u / 64) as usize;
+        self.words[w] = without_bit(self.words[w], u % 64);
     }
 
     // The members of either set.
     pub fn union(&self, other: &UnitSet) -> UnitSet
         ensures { λ r. ⌜ ((k : ℕ) → has r k ≡ (has (now (self .entry)) k || has (now (other .entry)) k)) ⌝ }
     {
-        let a = &self.words;
-        let b = &other.words;
         UnitSet {
-            words: [a[0] | b[0], a[1] | b[1], a[2] | b[2], a[3] | b[3]],
+            words: or_words(&self.words, &other.words),
         }
     }
 
@@ -57,10 +58,8 @@ impl UnitSet {
     pub fn intersection(&self, other: &UnitSet) -> UnitSet
         ensures { λ r. ⌜ ((k : ℕ) → has r k ≡ (has (now (self .entry)) k && has (now (other .entry)) k)) ⌝ }
     {
-        let a = &self.words;
-        let b = &other.words;
         UnitSet {
-            words: [a[0] & b[0], a[1] & b[1], a[2] & b[2], a[3] & b[3]],
+            words: and_words(&self.words, &other.words),
         }
     }
 
@@ -68,10 +67,8 @@ impl UnitSet {
     pub fn minus(&self, other: &UnitSet) -> UnitSet
         ensures { λ r. ⌜ ((k : ℕ) → has r k ≡ (has (now (self .entry)) k && not (has (now (other .entry)) k))) ⌝ }
     {
-        let a = &self.words;
-        let b = &other.words;
         UnitSet {
-            words: [a[0] & !b[0], a[1] & !b[1], a[2] & !b[2], a[3] & !b[3]],
+            words: and_not_words(&self.words, &other.words),
         }
     }
 
@@ -79,18 +76,15 @@ impl UnitSet {
     pub fn symmetric_difference(&self, other: &UnitSet) -> UnitSet
         ensures { λ r. ⌜ ((k : ℕ) → has r k ≡ xor (has (now (self .entry)) k) (has (now (other .entry)) k)) ⌝ }
     {
-        let a = &self.words;
-        let b = &other.words;
         UnitSet {
-            words: [a[0] ^ b[0], a[1] ^ b[1], a[2] ^ b[2], a[3] ^ b[3]],
+            words: xor_words(&self.words, &other.words),
         }
     }
 
     pub fn is_empty(&self) -> bool
         ensures { λ r. ⌜ Inhabited (not r) (has (now (self .entry))) ⌝ }
     {
-        let a = &self.words;
-        a[0] | a[1] | a[2] | a[3] == 0
+        joined_bits(&self.words) == 0
     }
 
     // Whether the two sets have a member in common.
@@ -107,7 +101,13 @@ impl UnitSet {
         if c == 255 {
             return None;
         }
-        let from = c + 1;
+        self.least_from(c + 1)
+    }
+
+    // The least member that is not below from.
+    fn least_from(&self, from: u8) -> Option<u8>
+        ensures { λ r. ⌜ Least (has (now (self .entry))) from r ⌝ }
+    {
         let start = from / 64;
         if let Some(b) = first_set(self.words[start as usize], from % 64) {
             return Some(start * 64 + b);
@@ -136,6 +136,73 @@ impl UnitSet {
     {
         self.symmetric_difference(other).len()
     }
+}
+
+// Four words without a bit.
+fn zeros() -> [u64; 4]
+    ensures { λ r. ⌜ r ≡ replicate 4 0 ⌝ }
+{
+    [0; 4]
+}
+
+// Whether the word has a bit at the place.
+fn bit_at(word: u64, place: u8) -> bool
+    requires { ⌜ place < 64 ⌝ }
+    ensures { λ r. ⌜ r ≡ eqb (word / 2 ^ place % 2) 1 ⌝ }
+{
+    (word >> place) % 2 == 1
+}
+
+// The word with the bit at the place set.
+fn with_bit(word: u64, place: u8) -> u64
+    requires { ⌜ place < 64 ⌝ }
+    ensures { λ r. ⌜ r ≡ bitOr word (2 ^ place) ⌝ }
+{
+    word | (1 << place)
+}
+
+// The word with the bit at the place cleared.
+fn without_bit(word: u64, place: u8) -> u64
+    requires { ⌜ place < 64 ⌝ }
+    ensures { λ r. ⌜ r ≡ lacking word (2 ^ place) ⌝ }
+{
+    word & !(1 << place)
+}
+
+// The bits of either row.
+fn or_words(a: &[u64; 4], b: &[u64; 4]) -> [u64; 4]
+    ensures { λ r. ⌜ r ≡ each-word bitOr (now (a .entry)) (now (b .entry)) ⌝ }
+{
+    [a[0] | b[0], a[1] | b[1], a[2] | b[2], a[3] | b[3]]
+}
+
+// The bits of both rows.
+fn and_words(a: &[u64; 4], b: &[u64; 4]) -> [u64; 4]
+    ensures { λ r. ⌜ r ≡ each-word bitAnd (now (a .entry)) (now (b .entry)) ⌝ }
+{
+    [a[0] & b[0], a[1] & b[1], a[2] & b[2], a[3] & b[3]]
+}
+
+// The bits of the first row that the second lacks.
+fn and_not_words(a: &[u64; 4], b: &[u64; 4]) -> [u64; 4]
+    ensures made { λ r. ⌜ r ≡ each-word lacking (now (a .entry)) (now (b .entry)) ⌝ }
+    ensures fit { λ _. ⌜ Fit (now (b .entry)) ⌝ }
+{
+    [a[0] & !b[0], a[1] & !b[1], a[2] & !b[2], a[3] & !b[3]]
+}
+
+// The bits of one row and not of the other.
+fn xor_words(a: &[u64; 4], b: &[u64; 4]) -> [u64; 4]
+    ensures { λ r. ⌜ r ≡ each-word bitXor (now (a .entry)) (now (b .entry)) ⌝ }
+{
+    [a[0] ^ b[0], a[1] ^ b[1], a[2] ^ b[2], a[3] ^ b[3]]
+}
+
+// The bits that some word has.
+fn joined_bits(a: &[u64; 4]) -> u64
+    ensures { λ r. ⌜ r ≡ joined (now (a .entry)) ⌝ }
+{
+    a[0] | a[1] | a[2] | a[3]
 }
 
 // How many bits of the word are set.

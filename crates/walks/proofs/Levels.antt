@@ -7,7 +7,7 @@ use Prim.Native.Nat.{ℕ, suc, _+_, _≤_, _<_}
 use native.Mathlib.Omega.{arith}
 use lib.Dec.{eqb}
 use lib.ListN.{length, length-append}
-use Rattle.std.proofs.shelf.Tests.{cases-bool, cases-lt, eqb-true, both-ways, or-cases}
+use Rattle.std.proofs.shelf.Tests.{cases-bool, cases-lt, eqb-true, both-ways}
 use Rattle.std.specs.declared.option.Option.the-variants.{Some, None}
 use Rattle.theory.specs.Maps.{Map, Sound}
 use Rattle.theory.specs.Chains.{Onward, Chain}
@@ -29,23 +29,18 @@ pub record Level (m : Map) (s t n : ℕ) (seen level : ℕ → Bool) : Type 0 wh
   pub not-yet : (k : ℕ) → seen k ≡ true → level k ≡ false → k ≡ t → ⊥
   pub few : n + left seen level ≤ 256
 
-pub level-start : (m : Map) (s t : ℕ) (none seen : ℕ → Bool) → m .unit s ≡ true → ((k : ℕ) → none k ≡ false) → ((k : ℕ) → seen k ≡ (eqb k s || none k))
-    → Level m s t 0 seen seen
-level-start m s t none seen on empty e =
-    let w = walked-start m s none seen on empty e in
+pub level-start : (m : Map) (s t : ℕ) (seen : ℕ → Bool) → m .unit s ≡ true → ((k : ℕ) → seen k ≡ eqb k s) → Level m s t 0 seen seen
+level-start m s t seen on only =
+    let w = walked-start m s seen on only in
     record {
       walked = w;
-      reached = λ k l. ([], is-s k (or-cases _ _ (sym (e k) ∙ l)), refl);
+      reached = λ k l. ([], sym (eqb-true k s (sym (only k) ∙ l)), refl);
       near = λ k c o h. at k c o h (w .start);
       nearer = λ k c o h. absurd (omega arith);
       not-yet = λ k t f _. both-ways _ f t;
       few = let most = count-most (λ k. not (seen k) || seen k) in omega arith;
     }
   where
-    is-s : (k : ℕ) → (eqb k s ≡ true) ⊎ (none k ≡ true) → s ≡ k
-    is-s k (inl h) = sym (eqb-true k s h)
-    is-s k (inr h) = absurd (both-ways _ (empty k) h)
-
     at : (k : ℕ) (c : List ℕ) → Onward m s c k → length c ≤ 0 → seen s ≡ true → seen k ≡ true
     at k [] o h on = subst (λ (z : ℕ). seen z ≡ true) o on
     at k (x ∷ c) o h on = absurd (omega arith)

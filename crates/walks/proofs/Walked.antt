@@ -33,18 +33,13 @@ unheard m sound s t off = same-tests (isHeard m s t) false
     (λ h. absurd (both-ways _ off (passed _ (heard-first m sound s t (heard-sound m sound s t h)))))
     (λ h. absurd h)
 
-pub walked-start : (m : Map) (s : ℕ) (none seen : ℕ → Bool) → m .unit s ≡ true → ((k : ℕ) → none k ≡ false) → ((k : ℕ) → seen k ≡ (eqb k s || none k))
-    → Walked m s seen seen
-walked-start m s none seen on empty e = record {
-  start = e s ∙ or-left _ _ (eq-eqb s s refl);
-  heard = λ k t. at k (or-cases _ _ (sym (e k) ∙ t));
+pub walked-start : (m : Map) (s : ℕ) (seen : ℕ → Bool) → m .unit s ≡ true → ((k : ℕ) → seen k ≡ eqb k s) → Walked m s seen seen
+walked-start m s seen on only = record {
+  start = only s ∙ eq-eqb s s refl;
+  heard = λ k t. subst (λ (z : ℕ). Heard m s z) (sym (eqb-true k s (sym (only k) ∙ t))) (heard-self m s (passes _ on));
   within = λ k t. t;
   closed = λ k j t f p. absurd (both-ways _ f t);
 }
-  where
-    at : (k : ℕ) → (eqb k s ≡ true) ⊎ (none k ≡ true) → Heard m s k
-    at k (inl t) = subst (λ (z : ℕ). Heard m s z) (sym (eqb-true k s t)) (heard-self m s (passes _ on))
-    at k (inr t) = absurd (both-ways _ (empty k) t)
 
 -- one turn
 module _ (m : Map) (sound : Sound m) (s : ℕ) (seen level next seen′ : ℕ → Bool) (news : Next m level seen next)

@@ -2,6 +2,7 @@
 // with n pairings to those first seen with one more.
 ghost use mathlib.Core.Path.{_≡_};
 ghost use Prim.Native.Nat.{ℕ};
+ghost use lib.Dec.{eqb};
 ghost use Rattle.units.specs.Has.{has};
 ghost use Rattle.theory.specs.Hearing.{isHeard};
 ghost use Rattle.walks.specs.Levels.{Next, Fewest};
@@ -13,11 +14,10 @@ pub fn heard_from<M: Map>(m: &M, s: u8) -> UnitSet
     ensures { λ r. ⌜ ((t : ℕ) → has r t ≡ isHeard (M·Map .meaning (now (m .entry))) s t) ⌝ }
 {
     m.sound();
-    let mut seen = UnitSet::empty();
     if !m.stands(s) {
-        return seen;
+        return UnitSet::empty();
     }
-    seen.insert(s);
+    let mut seen = only(s);
     let mut level = seen;
     while !level.is_empty() {
         level = next_level(m, &level, &seen);
@@ -34,8 +34,7 @@ pub fn fewest_pairings<M: Map>(m: &M, s: u8, t: u8) -> Option<u16>
     if !m.stands(s) {
         return None;
     }
-    let mut seen = UnitSet::empty();
-    seen.insert(s);
+    let mut seen = only(s);
     let mut level = seen;
     let mut n = 0;
     while !level.is_empty() {
@@ -47,6 +46,15 @@ pub fn fewest_pairings<M: Map>(m: &M, s: u8, t: u8) -> Option<u16>
         n += 1;
     }
     None
+}
+
+// The set whose one member is s.
+fn only(s: u8) -> UnitSet
+    ensures { λ r. ⌜ ((k : ℕ) → has r k ≡ eqb k s) ⌝ }
+{
+    let mut set = UnitSet::empty();
+    set.insert(s);
+    set
 }
 
 // The units that a unit of the level is paired to, and that were not seen.

@@ -8,7 +8,7 @@ use Rattle.walks.proofs.fewest_pairings.Needs as need
 
 pub loop-seen-holds : need.loop-seen-holds
 loop-seen-holds g c =
-    level-start (g .M·Map .meaning (c .args .m .now)) (c .args .s) (c .args .t) (has (c .empty-seen .result)) (has (c .insert .last .self)) (sym (c .if-not-stands .ensures tt)) (c .empty-seen .ensures) (c .insert .ensures)
+    level-start (g .M·Map .meaning (c .args .m .now)) (c .args .s) (c .args .t) (has (c .only-seen .result)) (sym (c .if-not-stands .ensures tt)) (c .only-seen .ensures)
 
 pub returns-then-contains : need.returns-then-contains
 returns-then-contains g c =

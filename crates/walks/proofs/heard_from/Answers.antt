@@ -5,11 +5,11 @@ use Rattle.walks.proofs.heard_from.Needs as need
 
 pub returns-then-not-stands : need.returns-then-not-stands
 returns-then-not-stands g c t =
-    c .empty-seen .ensures t ∙ sym (unheard (g .M·Map .meaning (c .args .m .now)) (c .sound .ensures) (c .args .s) t (sym (c .if-not-stands .ensures tt)))
+    c .empty .ensures t ∙ sym (unheard (g .M·Map .meaning (c .args .m .now)) (c .sound .ensures) (c .args .s) t (sym (c .if-not-stands .ensures tt)))
 
 pub loop-level-holds : need.loop-level-holds
 loop-level-holds g c =
-    walked-start (g .M·Map .meaning (c .args .m .now)) (c .args .s) (has (c .empty-seen .result)) (has (c .insert .last .self)) (sym (c .if-not-stands .ensures tt)) (c .empty-seen .ensures) (c .insert .ensures)
+    walked-start (g .M·Map .meaning (c .args .m .now)) (c .args .s) (has (c .only-seen .result)) (sym (c .if-not-stands .ensures tt)) (c .only-seen .ensures)
 
 pub loop-level-less : need.loop-level-less
 loop-level-less g c =

@@ -1,10 +1,16 @@
-use Prim.Native.Nat.{_<_, _^_}
+use mathlib.Core.Path.{sym, subst}
+use mathlib.Core.Bool.{not}
+use Prim.Native.Nat.{ℕ, _<_, _^_}
 use native.Mathlib.Omega.{arith}
-use lib.ListN.{getD}
-use Rattle.units.proofs.Members.{inhabited, each-four}
+use lib.Dec.{eqb}
+use Rattle.units.specs.Bit.{member, joined}
+use Rattle.units.specs.Sets.{Inhabited}
+use Rattle.units.proofs.Members.{inhabited}
 use Rattle.units.proofs.UnitSet.is_empty.Needs as need
 
 pub returns : need.returns
 returns c =
     let xs = c .args .self .now .words in
-    inhabited xs (each-four (λ i. getD xs i 0 < 2 ^ 64) (omega arith) (omega arith) (omega arith) (omega arith))
+    let e = c .joined-bits .ensures in
+    let small : joined xs < 2 ^ 64 = omega arith in
+    subst (λ (x : ℕ). Inhabited (not (eqb x 0)) (member xs)) (sym e) (inhabited xs small)
