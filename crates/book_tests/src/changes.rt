@@ -27,6 +27,15 @@ pub enum List {
     OutHolders,
 }
 
+pub fn enrol<'a>(unit: u8, rank: u8, sources: &'a [u8], listeners: &'a [u8]) -> Change<'a> {
+    Change::Enrol {
+        unit,
+        rank,
+        sources,
+        listeners,
+    }
+}
+
 // Puts the change to the book.
 pub fn put<S: Store>(book: &mut Book<S>, change: &Change<'_>) -> Result<u32, BookFault>
     requires { ⌜ Whole (S·Map .meaning) (now book) ⌝ }
@@ -38,7 +47,7 @@ pub fn put<S: Store>(book: &mut Book<S>, change: &Change<'_>) -> Result<u32, Boo
             rank,
             sources,
             listeners,
-        } => book.rank(unit, rank),
+        } => book.enrol(unit, rank, sources, listeners),
         Change::Drop(v) => book.drop_unit(v),
         Change::Pair(a, b) => book.pair(a, b),
         Change::Unpair(a, b) => book.unpair(a, b),

@@ -4,3 +4,6 @@ pub mod brute;
 pub mod changes;
 pub mod random;
 pub mod relation;
+
+#[cfg(test)]
+mod tests;
