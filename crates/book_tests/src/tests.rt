@@ -16,7 +16,6 @@ use maps::StoreFault;
 use plain::BookFault;
 use plain::BookFaultDebug;
 use plain::BookFaultPartialEq;
-use std::mem::forget;
 use std::test::*;
 
 // A change, and what the book must answer.
@@ -86,4 +85,160 @@ fn clear<S: Store>(book: &mut Book<S>)
     for u in 0..255u8 {
         let _ = book.drop_unit(u + 1);
     }
+}
+
+// Plays the steps on the book once it has no unit, and looks at the lists and at how many labels there are.
+fn case<S: Store>(
+    book: &mut Book<S>,
+    steps: &[Step<'_>],
+    lists: &[Told<'_>],
+    total: usize,
+) -> Result<(), Fail>
+    requires { ⌜ Whole (S·Map .meaning) (now book) ⌝ }
+    ensures { λ _. ⌜ Whole (S·Map .meaning) (now (book .exit)) ⌝ }
+{
+    clear(book);
+    play(book, steps)?;
+    tells(book, lists)?;
+    check_eq(labels(book), total)
+}
+
+fn one_unit<S: Store>(book: &mut Book<S>) -> Result<(), Fail>
+    requires { ⌜ Whole (S·Map .meaning) (now book) ⌝ }
+    ensures { λ _. ⌜ Whole (S·Map .meaning) (now (book .exit)) ⌝ }
+{
+    check_eq(labels(book), 0)?;
+    check_eq(book.hear(1, 1), Err(BookFault::Unknown))?;
+    play(book, &[Step(enrol(1, 1, &[], &[]), Ok(0))])?;
+    check_eq(book.hear(1, 1), Ok(true))?;
+    check_eq(labels(book), 0)
+}
+
+// Two ways from 1 to 4.
+fn two_ways<S: Store>(book: &mut Book<S>) -> Result<(), Fail>
+    requires { ⌜ Whole (S·Map .meaning) (now book) ⌝ }
+    ensures { λ _. ⌜ Whole (S·Map .meaning) (now (book .exit)) ⌝ }
+{
+    let steps = [
+        Step(enrol(2, 1, &[], &[]), Ok(0)),
+        Step(enrol(1, 2, &[], &[]), Ok(0)),
+        Step(enrol(3, 3, &[], &[]), Ok(0)),
+        Step(enrol(4, 4, &[], &[]), Ok(0)),
+        Step(Change::Pair(1, 2), Ok(1)),
+        Step(Change::Pair(1, 3), Ok(1)),
+        Step(Change::Pair(2, 4), Ok(1)),
+        Step(Change::Pair(3, 4), Ok(1)),
+    ];
+    let lists = [
+        Told(List::InLabels, 4, &[2, 3]),
+        Told(List::InLabels, 3, &[1]),
+        Told(List::OutLabels, 1, &[2]),
+        Told(List::InHolders, 2, &[4]),
+        Told(List::OutHolders, 2, &[1]),
+    ];
+    case(book, &steps, &lists, 4)
+}
+
+// 3 between 1, 2 and 4, 5: it has the highest rank.
+fn middle_first<S: Store>(book: &mut Book<S>) -> Result<(), Fail>
+    requires { ⌜ Whole (S·Map .meaning) (now book) ⌝ }
+    ensures { λ _. ⌜ Whole (S·Map .meaning) (now (book .exit)) ⌝ }
+{
+    let steps = [
+        Step(enrol(3, 1, &[], &[]), Ok(0)),
+        Step(enrol(1, 2, &[], &[3]), Ok(1)),
+        Step(enrol(2, 3, &[], &[3]), Ok(1)),
+        Step(enrol(4, 4, &[3], &[]), Ok(1)),
+        Step(enrol(5, 5, &[3], &[]), Ok(1)),
+    ];
+    let lists = [
+        Told(List::InHolders, 3, &[4, 5]),
+        Told(List::OutHolders, 3, &[1, 2]),
+    ];
+    case(book, &steps, &lists, 4)
+}
+
+// The same pairings: it has the lowest rank.
+fn middle_last<S: Store>(book: &mut Book<S>) -> Result<(), Fail>
+    requires { ⌜ Whole (S·Map .meaning) (now book) ⌝ }
+    ensures { λ _. ⌜ Whole (S·Map .meaning) (now (book .exit)) ⌝ }
+{
+    let steps = [
+        Step(enrol(1, 1, &[], &[]), Ok(0)),
+        Step(enrol(2, 2, &[], &[]), Ok(0)),
+        Step(enrol(4, 3, &[], &[]), Ok(0)),
+        Step(enrol(5, 4, &[], &[]), Ok(0)),
+        Step(enrol(3, 5, &[2, 1], &[5, 4]), Ok(8)),
+    ];
+    let lists = [
+        Told(List::InLabels, 3, &[1, 2]),
+        Told(List::OutLabels, 3, &[4, 5]),
+        Told(List::InLabels, 4, &[1, 2]),
+        Told(List::InLabels, 5, &[1, 2]),
+    ];
+    case(book, &steps, &lists, 8)
+}
+
+// A dropped unit uncovers a label.
+fn drop_between<S: Store>(book: &mut Book<S>) -> Result<(), Fail>
+    requires { ⌜ Whole (S·Map .meaning) (now book) ⌝ }
+    ensures { λ _. ⌜ Whole (S·Map .meaning) (now (book .exit)) ⌝ }
+{
+    let steps = [
+        Step(enrol(2, 1, &[], &[]), Ok(0)),
+        Step(enrol(1, 2, &[], &[2]), Ok(1)),
+        Step(enrol(3, 3, &[2], &[]), Ok(1)),
+        Step(Change::Pair(1, 3), Ok(0)),
+        Step(Change::Drop(2), Ok(3)),
+    ];
+    case(book, &steps, &[Told(List::InLabels, 3, &[1])], 1)
+}
+
+// An enrolled unit covers one.
+fn enrol_between<S: Store>(book: &mut Book<S>) -> Result<(), Fail>
+    requires { ⌜ Whole (S·Map .meaning) (now book) ⌝ }
+    ensures { λ _. ⌜ Whole (S·Map .meaning) (now (book .exit)) ⌝ }
+{
+    let steps = [
+        Step(enrol(1, 1, &[], &[]), Ok(0)),
+        Step(enrol(3, 2, &[1], &[]), Ok(1)),
+        Step(enrol(2, 1, &[1], &[3]), Ok(3)),
+    ];
+    let lists = [
+        Told(List::InLabels, 3, &[2]),
+        Told(List::OutLabels, 1, &[2]),
+    ];
+    case(book, &steps, &lists, 2)
+}
+
+// One rank more is open to a unit that is enrolled than to one that is moved.
+fn last_rank<S: Store>(book: &mut Book<S>) -> Result<(), Fail>
+    requires { ⌜ Whole (S·Map .meaning) (now book) ⌝ }
+    ensures { λ _. ⌜ Whole (S·Map .meaning) (now (book .exit)) ⌝ }
+{
+    let steps = [
+        Step(enrol(1, 1, &[], &[]), Ok(0)),
+        Step(enrol(2, 2, &[1], &[]), Ok(1)),
+        Step(Change::Rank(1, 3), Err(BookFault::RankOutside)),
+        Step(Change::Rank(1, 2), Ok(2)),
+        Step(enrol(3, 3, &[], &[]), Ok(0)),
+    ];
+    case(book, &steps, &[Told(List::OutLabels, 1, &[2])], 1)
+}
+
+fn small_cases<S: Store>(book: &mut Book<S>) -> Result<(), Fail>
+    requires { ⌜ Whole (S·Map .meaning) (now book) ⌝ }
+{
+    one_unit(book)?;
+    two_ways(book)?;
+    middle_first(book)?;
+    middle_last(book)?;
+    drop_between(book)?;
+    enrol_between(book)?;
+    last_rank(book)
+}
+
+#[test]
+fn small_cases_over_the_grid() -> Result<(), Fail> {
+    small_cases(&mut Book::make(Grid::new()))
 }
