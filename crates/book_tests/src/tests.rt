@@ -1,22 +1,21 @@
 // The tests, over any store: each body takes an empty book.
 ghost use Rattle.book.specs.Views.{Whole};
-use crate::brute::BruteBook;
 use crate::changes::Change;
 use crate::changes::List;
 use crate::changes::ask;
 use crate::changes::enrol;
 use crate::changes::put;
-use crate::random::Random;
 use book::Book;
 use grid::Grid;
 use grid::GridMap;
 use grid::GridStore;
 use maps::Store;
-use maps::StoreFault;
 use plain::BookFault;
 use plain::BookFaultDebug;
 use plain::BookFaultPartialEq;
 use std::test::*;
+
+mod comparison;
 
 // A change, and what the book must answer.
 #[derive(Clone, Copy)]
