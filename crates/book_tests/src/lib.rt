@@ -4,6 +4,5 @@ pub mod brute;
 pub mod changes;
 pub mod random;
 pub mod relation;
-
 #[cfg(test)]
 mod tests;

@@ -1,6 +1,5 @@
 // Which of the numbers 0 to 15 are related to which.
-ghost use Prim.Native.Nat.{_<_};
-ghost use Prim.Native.Nat.{_≤_};
+ghost use Prim.Native.Nat.{_<_, _≤_};
 
 #[derive(Clone, Copy)]
 pub struct Relation {

@@ -15,7 +15,9 @@ use plain::BookFaultDebug;
 use plain::BookFaultPartialEq;
 use std::test::*;
 
+mod capacity;
 mod comparison;
+mod refusals;
 
 // A change, and what the book must answer.
 #[derive(Clone, Copy)]

@@ -17,9 +17,9 @@ use plain::BookFaultDebug;
 use plain::BookFaultPartialEq;
 use std::test::*;
 
-// A number of the units 1 to 8, or 0.
+// A number of the units 1 to 8, or now and then 0.
 fn some_unit(random: &mut Random) -> u8 {
-    random.below(9)
+    (random.below(33) + 3) / 4
 }
 
 fn some_units(random: &mut Random) -> [u8; 4] {
@@ -36,32 +36,39 @@ fn some_enrolment<'a>(random: &mut Random, units: &'a [u8; 4]) -> Change<'a> {
     let rank = random.below(8);
     let sources = usize::from(random.below(3));
     let listeners = usize::from(random.below(2));
-    enrol(units[0], rank, &units[1..1 + sources], &units[3..3 + listeners])
+    enrol(
+        units[0],
+        rank,
+        &units[1..1 + sources],
+        &units[3..3 + listeners],
+    )
 }
 
 // A change with some of the units.
 fn some_change<'a>(random: &mut Random, units: &'a [u8; 4]) -> Change<'a> {
-    match random.below(16) {
-        0..=6 => some_enrolment(random, units),
-        7 => Change::Drop(units[0]),
-        8..=11 => Change::Pair(units[0], units[1]),
-        12 => Change::Unpair(units[0], units[1]),
+    match random.below(32) {
+        0..=7 => some_enrolment(random, units),
+        8 => Change::Drop(units[0]),
+        9..=19 => Change::Pair(units[0], units[1]),
+        20..=23 => Change::Unpair(units[0], units[1]),
         _ => Change::Rank(units[0], random.below(9)),
     }
 }
 
-// Puts one change to both.
+// Puts one change to both, and tells how many labels it altered.
 fn turn<S: Store>(
     book: &mut Book<S>,
     brute: &mut BruteBook,
     random: &mut Random,
-) -> Result<(), Fail>
+) -> Result<u32, Fail>
     requires { ⌜ Whole (S·Map .meaning) (now book) ⌝ }
     ensures { λ _. ⌜ Whole (S·Map .meaning) (now (book .exit)) ⌝ }
 {
     let units = some_units(random);
     let change = some_change(random, &units);
-    check_eq(put(book, &change), brute.put(&change))
+    let answer = put(book, &change);
+    check_eq(answer, brute.put(&change))?;
+    Ok(answer.unwrap_or(0))
 }
 
 // Asks both for a list of u, in a buffer of so many bytes.
@@ -123,16 +130,18 @@ fn compare_at<S: Store>(book: &Book<S>, brute: &BruteBook, time: u16) -> Result<
     Ok(())
 }
 
+// Many changes, which alter many labels between them.
 fn many_turns<S: Store>(book: &mut Book<S>, seed: u32) -> Result<(), Fail>
     requires { ⌜ Whole (S·Map .meaning) (now book) ⌝ }
 {
     let mut brute = BruteBook::new();
     let mut random = Random::from_seed(seed);
-    for time in 0..800u16 {
-        turn(book, &mut brute, &mut random)?;
+    let mut altered: u32 = 0;
+    for time in 0..5000u16 {
+        altered = altered.saturating_add(turn(book, &mut brute, &mut random)?);
         compare_at(book, &brute, time)?;
     }
-    Ok(())
+    check(altered > 1000).note(format_args!("labels altered: {altered}"))
 }
 
 #[test]
