@@ -92,10 +92,9 @@ impl<'a> Rest<'a> {
         let [b' ', text @ ..] = self.bytes else {
             return Err(self.fault(0));
         };
-        let n = name_len(text);
-        if n == 0 {
+        let Some(n) = leading_name(text) else {
             return Err(self.fault(1));
-        }
+        };
         let rest = Rest {
             bytes: &text[n..],
             place: self.place + 1 + n as u8,
@@ -161,6 +160,15 @@ fn name_len(text: &[u8]) -> usize
         n += 1;
     }
     n
+}
+
+// How many bytes the longest name at the start of the text has.
+fn leading_name(text: &[u8]) -> Option<usize>
+    ensures within { λ r. ⌜ BySome r (Unit {0}) (λ n. (n ≤ length (now (text .entry))) × (n ≤ 16)) ⌝ }
+    ensures is { λ r. ⌜ BySome r (name-run 16 (now (text .entry)) ≡ 0) (λ n. (n ≡ name-run 16 (now (text .entry))) × (0 < n)) ⌝ }
+{
+    let n = name_len(text);
+    if n == 0 { None } else { Some(n) }
 }
 
 // The number with a digit after it, if it stays at most 255.
