@@ -31,6 +31,3 @@ number-cut x = (x .0, x .1 .bytes .now, x .1 .place)
 
 abbrev pub name-cut : RefT (List ℕ) × Rest → Cut (List ℕ)
 name-cut x = (x .0 .now, x .1 .bytes .now, x .1 .place)
-
-abbrev pub names-cut : RefT (List ℕ) × RefT (List ℕ) → List ℕ × List ℕ
-names-cut x = (x .0 .now, x .1 .now)
