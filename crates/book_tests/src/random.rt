@@ -7,8 +7,8 @@ pub struct Random {
 }
 
 impl Random {
-    pub fn from_seed(seed: u32) -> Random {
-        Random { state: seed }
+    pub fn starting_at(start: u32) -> Random {
+        Random { state: start }
     }
 
     // A number below the bound.

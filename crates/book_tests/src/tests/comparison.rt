@@ -131,11 +131,11 @@ fn compare_at<S: Store>(book: &Book<S>, brute: &BruteBook, time: u16) -> Result<
 }
 
 // Many changes, which alter many labels between them.
-fn many_turns<S: Store>(book: &mut Book<S>, seed: u32) -> Result<(), Fail>
+fn many_turns<S: Store>(book: &mut Book<S>, start: u32) -> Result<(), Fail>
     requires { ⌜ Whole (S·Map .meaning) (now book) ⌝ }
 {
     let mut brute = BruteBook::new();
-    let mut random = Random::from_seed(seed);
+    let mut random = Random::starting_at(start);
     let mut altered: u32 = 0;
     for time in 0..5000u16 {
         altered = altered.saturating_add(turn(book, &mut brute, &mut random)?);
