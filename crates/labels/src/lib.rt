@@ -32,7 +32,8 @@ impl Holders {
     pub fn of(&self, u: u8) -> UnitSet
         ensures { λ r. ⌜ ((v : ℕ) → has r v ≡ holds (now (self .entry)) u v) ⌝ }
     {
-        self.sets[u as usize]
+        let place = u as usize;
+        self.sets[place]
     }
 
     // Whether v is in the set of u.
