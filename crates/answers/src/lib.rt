@@ -1,4 +1,6 @@
 // The answers to lines: what is told of a line that is obeyed, why one is refused, and the text of each.
+#![tactic(auto)]
+
 ghost use Rattle.std.specs.Prelude.{◌≡◌, ◌≤◌, ◌++◌, length, drop};
 ghost use Rattle.answers.specs.Texts.{told_text, refusal_text, text as answer-text, Near};
 ghost use Rattle.answers.specs.Written.{so_far};

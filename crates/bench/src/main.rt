@@ -3,6 +3,8 @@
 //
 // A workload has one change a line, numbers in decimal: `e V K S.. / L..` enrols V at rank K with sources S.. and listeners
 // L.., `p A B` pairs A to B, and `d V` drops V.
+#![tactic(auto)]
+
 ghost use Rattle.grid.specs.Held.{grid_map};
 ghost use Rattle.book.specs.Views.{Whole};
 

@@ -1,5 +1,7 @@
 // The book: a store, the ranks of its units and the labels it keeps, and the calls that are put to them. Each call means
 // what the plain book says; it is refused before anything is changed.
+#![tactic(auto)]
+
 ghost use Rattle.std.specs.Prelude.{◌≡◌, ℕ, true, false, not, ◌||◌, [], ◌∷◌, ◌++◌, length, Err};
 ghost use Rattle.units.specs.Has.{has};
 ghost use Rattle.theory.specs.Ranks.{Orders};

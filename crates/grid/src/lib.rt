@@ -1,5 +1,7 @@
 // Maps as bits, in fixed memory: a matrix, which is a map with fast whole-set answers, and a grid, which is a store with a
 // matrix inside and room for 8,000 pairings.
+#![tactic(auto)]
+
 ghost use Rattle.std.specs.Prelude.{◌≡◌, ◌≤◌, true, ◌≢◌};
 ghost use Rattle.theory.specs.Maps.{Sound, nothing, with_unit, without_unit, with_pair, without_pair};
 ghost use Rattle.grid.specs.Rows.{map_of};

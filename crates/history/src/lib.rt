@@ -1,4 +1,6 @@
 // Any list of calls, put to a book over any store, granted or refused; and what is promised of the book and the answers.
+#![tactic(auto)]
+
 ghost use Rattle.std.specs.Prelude.{[], ◌∷◌, ◌++◌, map, IfOk, OnOk};
 ghost use Rattle.plain.specs.Requests.{Make, Load};
 ghost use Rattle.book.specs.Views.{plain_of, Whole};

@@ -1,5 +1,7 @@
 // The labels that a book keeps: for each unit the set of its in-holders and the set of its out-holders, and what is asked
 // of them in the order of rank. Nothing else is kept: u is an in-label of v exactly when v is among the in-holders of u.
+#![tactic(auto)]
+
 ghost use Rattle.std.specs.Prelude.{◌≡◌, ℕ, false, if◌then◌else◌, nat_eq};
 ghost use Rattle.units.specs.Has.{has};
 ghost use Rattle.labels.specs.Holding.{holds};

@@ -1,5 +1,7 @@
 // Layers over any map, each a map again, so that they pile in any order: a map turned round, and a map with some of its
 // units hidden. A layer holds the map below it by value; a lent map is a map too.
+#![tactic(auto)]
+
 ghost use Rattle.std.specs.Prelude.{◌≡◌, ℕ, false};
 ghost use Rattle.units.specs.Has.{has};
 ghost use Rattle.theory.specs.Maps.{turned, hidden};

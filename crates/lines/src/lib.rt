@@ -2,6 +2,8 @@
 //
 // A line is a letter and its fields, each with one space before it. Reading goes from the front, and a field is the
 // longest start of the rest that can be one, so the place of the first byte that cannot go on is known at once.
+#![tactic(auto)]
+
 ghost use Rattle.std.specs.Prelude.{◌≡◌, ℕ, ◌+◌, ◌<◌, ◌≤◌, true, false, ◌&&◌, List, ◌++◌, length, take, IfSome, IfOk, if◌then◌else◌, Some, None, codes, decimal, Result, MatchOption, MatchResult, ◌==◌, nat_le, nat_lt, slice_index};
 ghost use Rattle.grammar.specs.Grammar.{Said, Right, name_byte};
 ghost use Rattle.lines.specs.Texts.{first_line, after_line};

@@ -1,4 +1,6 @@
 // Whole logs: every line of a text is put to a named book, and the answers are written one after the other.
+#![tactic(auto)]
+
 ghost use Rattle.std.specs.Prelude.{◌≡◌, ◌≤◌, ◌++◌, length, take, is_ok, if◌then◌else◌, nat_lt};
 ghost use Rattle.plain_named.specs.Replies.{answer, after};
 ghost use Rattle.named.specs.Views.{named_of, Agreed};

@@ -1,5 +1,7 @@
 // What a map of units and pairings answers, and what a store of one does: the traits, with the meaning of every call, and
 // what is written once for all of them.
+#![tactic(auto)]
+
 ghost use Rattle.std.specs.Prelude.{◌≡◌, ℕ, ◌+◌, ◌≤◌};
 ghost use Rattle.units.specs.Has.{has};
 ghost use Rattle.units.specs.Sets.{Least};

@@ -1,4 +1,6 @@
 // What maps, stores, layers and searches do together: small uses of them with contracts, and tests.
+#![tactic(auto)]
+
 ghost use Rattle.std.specs.Prelude.{◌≡◌, ℕ, ◌&&◌, Some, MatchResult, nat_eq};
 ghost use Rattle.units.specs.Has.{has};
 ghost use Rattle.units.specs.Sets.{Least};

@@ -1,5 +1,7 @@
 // The search for the fewest pairings that marks what it has seen where it is told to, over any map. It goes level by level:
 // from the units first seen with n pairings to those first seen with one more.
+#![tactic(auto)]
+
 ghost use Rattle.std.specs.Prelude.{◌≡◌, ℕ, ◌≤◌, true, false, ◌||◌, IfSome, ◌==◌};
 ghost use Rattle.units.specs.Has.{has};
 ghost use Rattle.theory.specs.Chains.{FewestOrNone};

@@ -1,5 +1,7 @@
 // The kept labels made from a map and its order of ranks, and mended after any change of the two: only the sets of the
 // units that the change can touch are found again, each by a walk, and the labels that come and go are counted.
+#![tactic(auto)]
+
 ghost use Rattle.std.specs.Prelude.{◌≡◌, ℕ, ◌+◌, ◌<◌, ◌≤◌, false, not, ◌&&◌, ◌||◌, length, if◌then◌else◌, ◌==◌, nat_eq, slice_index};
 ghost use Rattle.units.specs.Has.{has};
 ghost use Rattle.theory.specs.Maps.{turned, hidden};

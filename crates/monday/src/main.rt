@@ -1,4 +1,6 @@
 // Plays a log: reads lines from standard input and writes one answer for each to standard output.
+#![tactic(auto)]
+
 use lines::{parse, split_line};
 use std::io;
 use std::io::{BufReader, BufWriter, Read, Write};

@@ -1,4 +1,6 @@
 // Plays a log over the grid: reads lines from standard input and writes one answer for each to standard output.
+#![tactic(auto)]
+
 use grid::Grid;
 use logs::play;
 use named::NamedBook;

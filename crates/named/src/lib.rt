@@ -1,5 +1,7 @@
 // The named book: a book and the name cards of its units, made empty and changed only by lines. A line is read, its names
 // are found, and the book is asked; the answer is a short text.
+#![tactic(auto)]
+
 ghost use Rattle.std.specs.Prelude.{◌≡◌, ◌≤◌, length, IfOk, Ok, Err, nat_lt};
 ghost use Rattle.lines.specs.Lines.{said};
 ghost use Rattle.plain_named.specs.Replies.{line_reply, after};

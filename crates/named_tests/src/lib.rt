@@ -1,5 +1,7 @@
 // Tests of the named book: a store filled to its capacity by lines, and the buffer of the line call. What a test plays stands
 // here.
+#![tactic(auto)]
+
 use std::alloc::{AllocError, Global};
 
 // A log that enrols the units 1 to 255, each at the rank of its number, and pairs lower to higher numbers 8,000 times.

@@ -1,5 +1,7 @@
 // Name cards: one for each number from 0 to 255, with the name of the unit on it while the unit stands. A change writes one
 // card anew and leaves the others.
+#![tactic(auto)]
+
 ghost use Rattle.std.specs.Prelude.{◌≡◌, ℕ, ◌<◌, ◌≤◌, true, length, take, Some, None, MatchOption, ◌≢◌, slice_index_or};
 ghost use Rattle.std.specs.Str.{bytes_eq};
 ghost use Rattle.names.specs.Names.{nameless, renamed, is_name, unit_named, found_at, free_at};

@@ -1,4 +1,6 @@
 // The saved page of a book: the bytes are checked and read as ranks and a map, and ranks and a map are written as bytes.
+#![tactic(auto)]
+
 ghost use Rattle.std.specs.Prelude.{◌≡◌, ℕ, false};
 ghost use Rattle.units.specs.Has.{has, in_row};
 ghost use Rattle.theory.specs.Maps.{listed};

@@ -1,5 +1,7 @@
 // The partners of a unit that is enrolled, its sources and its listeners: what is asked of the two lists beforehand, what
 // their units hear and what hears them, and how the new unit is joined to them in a store.
+#![tactic(auto)]
+
 ghost use Rattle.std.specs.Prelude.{◌≡◌, ℕ, not, T};
 ghost use Rattle.units.specs.Has.{has};
 ghost use Rattle.theory.specs.Maps.{Map, listed};

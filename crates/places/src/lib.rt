@@ -1,5 +1,7 @@
 // The best place of a new unit: the rank at which enrolling it would leave the fewest labels. It is found on copies, so that
 // nothing changes.
+#![tactic(auto)]
+
 ghost use Rattle.std.specs.Prelude.{◌≡◌, ℕ, ◌+◌, ◌<◌, ◌≤◌, false, T, ◌≢◌, length};
 ghost use Rattle.theory.specs.Maps.{listed, enrolled};
 ghost use Rattle.theory.specs.Chains.{On};

@@ -1,4 +1,6 @@
 // Where the fields of a line begin, counted from 1, and at which of them a fault is told.
+#![tactic(auto)]
+
 ghost use Rattle.std.specs.Prelude.{◌≡◌, ◌+◌, ◌≤◌, length, decimal};
 ghost use Rattle.grammar.specs.Grammar.{fields, LawfulFields};
 ghost use Rattle.lines.specs.Lines.{said};

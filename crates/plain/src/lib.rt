@@ -1,5 +1,7 @@
 // The plain book: what a book means, as a list of units from rank 1 down and a set of pairings; every request that can be
 // put to it, when it is refused and what it changes. The code here is only the faults that a refusal answers with.
+#![tactic(auto)]
+
 ghost use Rattle.std.specs.Prelude.{◌≡◌};
 ghost use Rattle.plain.specs.Faults.{book_number, book_letter};
 ghost use Rattle.plain.specs.declared.BookFault.TheVariants.{Store};

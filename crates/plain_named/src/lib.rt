@@ -1,5 +1,7 @@
 // The plain named book: what lines mean to a book whose units have names, what they are answered, and what a whole log makes
 // of the book. There is no other code here than what pins the laws.
+#![tactic(auto)]
+
 ghost use Rattle.plain_named.specs.Theorems.{StaysWellNamed, PlacesNear, FieldsPlaced, NeverUnknown};
 
 // Names stand for units from the empty book on, after every line.

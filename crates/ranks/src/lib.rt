@@ -1,4 +1,6 @@
 // The rank table: which unit stands at each rank, and which rank each unit has. The unit at rank 1 is the highest.
+#![tactic(auto)]
+
 ghost use Rattle.std.specs.Prelude.{◌≡◌, ℕ, ◌+◌, ◌-◌, ◌<◌, ◌≤◌, true, false, not, ◌&&◌, [], length, take, MatchOption, ◌≢◌, nat_le, slice_index};
 ghost use Rattle.theory.specs.Chains.{On};
 ghost use Rattle.theory.specs.Maps.{listed};

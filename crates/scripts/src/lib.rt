@@ -1,5 +1,7 @@
 // A history as text: one call a line, words with one space between, numbers in decimal, bytes in hexadecimal. An empty line
 // and a line that begins with # say nothing. A line that says something else is refused with its number and a place in it.
+#![tactic(auto)]
+
 use history::{Call, List, Start};
 use std::alloc::{AllocError, AllocFailed, Global};
 

@@ -1,5 +1,7 @@
 // Reach past units that are off, over any map. The off units are told by a sheet of bytes that the caller lends; the search
 // writes its marks on that sheet, and a guard over it takes them off again, whatever way the search ends.
+#![tactic(auto)]
+
 ghost use Rattle.std.specs.Prelude.{◌≡◌, ℕ, ◌≤◌, false, not, ◌&&◌, ◌||◌, length, IfSome, ◌==◌, nat_lt};
 ghost use Rattle.units.specs.Has.{has};
 ghost use Rattle.theory.specs.Maps.{hidden};

@@ -11,7 +11,7 @@ use Rattle.theory.proofs.Tests.{and-fst, and-snd, and_both, or-either, or_fst, o
 use Rattle.theory.proofs.Maps.{same_map, hidden-sound}
 use Rattle.theory.proofs.Chains.{goes, heard-self, heard-trans, heard-pair, heard-first}
 use Rattle.theory.proofs.Ranks.{removed-inserted, removed-off, on-removed, once-removed, on-inserted, once-inserted, rank-inserted}
-use Rattle.theory.proofs.Hidden.{shown-unit, clear-unit, shown-pair, kept_pair, kept-unit, show}
+use Rattle.theory.proofs.HiddenUnits.{shown-unit, clear-unit, shown-pair, kept_pair, kept-unit, show}
 use Rattle.theory.proofs.Lists.{listed-on}
 use Rattle.theory.proofs.Frames.{stay-back, with-pair-sound, without-pair-sound, drop-frame}
 

@@ -11,7 +11,7 @@ use Rattle.theory.proofs.Tests.{and-fst, and-snd, and_both, or-either, or_fst, o
 use Rattle.theory.proofs.Maps.{hidden-sound}
 use Rattle.theory.proofs.Chains.{goes, heard, heard-self, heard-trans, heard-pair}
 use Rattle.theory.proofs.Ranks.{removed-order, moved_order}
-use Rattle.theory.proofs.Hidden.{hide-between, show}
+use Rattle.theory.proofs.HiddenUnits.{hide-between, show}
 use Rattle.theory.proofs.Between.{Same, stays}
 
 pub stay-back : (m n : Map) (rank rate : ℕ → ℕ) (u v : ℕ) → Stay m rank n rate u v → Stay n rate m rank u v

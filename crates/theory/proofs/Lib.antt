@@ -11,7 +11,7 @@ pub mod Decide
 pub mod Lists
 pub mod Distinct
 pub mod Shared
-pub mod Hidden
+pub mod HiddenUnits
 pub mod Between
 pub mod Frames
 pub mod Enrols

@@ -13,7 +13,7 @@ use Rattle.theory.specs.Changes.{Frame, Local, PairLocal, UnpairLocal, DropLocal
 use Rattle.theory.proofs.Maps.{turned-sound, hidden-sound}
 use Rattle.theory.proofs.Chains.{heard-first, heard-last, heard-turned}
 use Rattle.theory.proofs.Ranks.{removed-here, removed-next}
-use Rattle.theory.proofs.Hidden.{clear-unit}
+use Rattle.theory.proofs.HiddenUnits.{clear-unit}
 use Rattle.theory.proofs.Decide.{in-decided}
 use Rattle.theory.proofs.Frames.{pair-frame, unpair-frame, drop-frame, rank-frame, with-pair-sound, without-pair-sound}
 use Rattle.theory.proofs.Enrols.{enrol-frame, enrolled-sound}

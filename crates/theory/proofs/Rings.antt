@@ -6,7 +6,7 @@ use Rattle.theory.specs.Changes.{New}
 use Rattle.theory.specs.Rings.{RingsKeptOut}
 use Rattle.theory.proofs.Maps.{hidden-sound}
 use Rattle.theory.proofs.Chains.{heard, heard-trans, heard-pair, goes}
-use Rattle.theory.proofs.Hidden.{shown-pair, show, hide-between}
+use Rattle.theory.proofs.HiddenUnits.{shown-pair, show, hide-between}
 use Rattle.theory.proofs.Frames.{Extra, detour, heard-up, with-pair-sound, with-pair-extra, with-pair-here, without-pair-sound, without-pair-extra}
 use Rattle.theory.proofs.Enrols.{enrolled-sound, enrolled-cases, enrolled-dropped, source-pair, listener-pair, old-heard, heard-new, new-heard}
 

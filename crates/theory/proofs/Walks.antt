@@ -8,7 +8,7 @@ use Rattle.theory.specs.Rows.{Covered}
 use Rattle.theory.specs.Walks.{LabelAtAnEnd, HighestListed, ReachedByRows, RowByCover, RowByWalk, HiddenTurned, WalkDone}
 use Rattle.theory.proofs.Chains.{goes, heard-self, heard-trans, heard-first, heard-last, heard-part}
 use Rattle.theory.proofs.Labels.{in-by-hearing, out-by-turned, hearing-of, in-listed, out_listed, highest-top}
-use Rattle.theory.proofs.Hidden.{hidden-turned-is, hide, show, last-clear}
+use Rattle.theory.proofs.HiddenUnits.{hidden-turned-is, hide, show, last-clear}
 use Rattle.theory.proofs.Core as core
 
 pub highest-listed : HighestListed

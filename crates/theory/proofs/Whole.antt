@@ -19,7 +19,7 @@ use Rattle.theory.proofs.Maps.{turned-sound, hidden-sound}
 use Rattle.theory.proofs.Counting.{count_same}
 use Rattle.theory.proofs.Chains.{heard-first}
 use Rattle.theory.proofs.Ranks.{on-removed, removed-off, on-inserted}
-use Rattle.theory.proofs.Hidden.{clear-unit}
+use Rattle.theory.proofs.HiddenUnits.{clear-unit}
 use Rattle.theory.proofs.Frames.{pair-frame, unpair-frame, with-pair-sound, without-pair-sound, drop-frame, rank-frame}
 use Rattle.theory.proofs.Enrols.{enrol-frame, enrol-area, enrolled-sound, drop_orders, enrol_orders, rank_orders}
 use Rattle.theory.proofs.Tables.{decided-by}

@@ -1,5 +1,7 @@
 // The theory of hearing, ranks and labels, over the definitions of the subject in specs/.
 // There is no code here: each function stands for the theorem that its contract names, so that the crate is proved only if the theorem is.
+#![tactic(auto)]
+
 ghost use Rattle.theory.specs.Theorems.{HearingDecided, HearingReflexive, HearingTransitive, OnAChain, LabelsDecided, ListsTold, Cover, HighestShared, MinimalIn, MinimalOut};
 ghost use Rattle.theory.specs.Examples.{Examples};
 ghost use Rattle.theory.specs.Changes.{ChangesSound, PairFrame, UnpairFrame, PairArea, DropFrame, EnrolFrame, EnrolArea, RankFrame, PairLocal, UnpairLocal, DropLocal, EnrolLocal, RankLocal};

@@ -1,5 +1,7 @@
 // A set of unit numbers, one bit for each number from 0 to 255. This is the one crate that knows bits: what is built on it
 // speaks of membership alone.
+#![tactic(auto)]
+
 ghost use Rattle.std.specs.Prelude.{◌≡◌, ℕ, ◌+◌, ◌/◌, ◌%◌, ◌^◌, ◌<◌, ◌≤◌, false, not, ◌&&◌, ◌||◌, replicate, IfSome, ◌==◌, bit_and, bit_or, bit_xor, count_ones};
 ghost use Rattle.std.specs.Bool.{xor};
 ghost use Rattle.theory.specs.Counts.{count};

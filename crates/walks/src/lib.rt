@@ -1,5 +1,7 @@
 // Searches along the pairings of a map, written once for every map. They go level by level: from the units first seen
 // with n pairings to those first seen with one more.
+#![tactic(auto)]
+
 ghost use Rattle.std.specs.Prelude.{◌≡◌, ℕ, ◌==◌};
 ghost use Rattle.units.specs.Has.{has};
 ghost use Rattle.theory.specs.Hearing.{is_heard};
