@@ -10,10 +10,10 @@ pub returns-in-Ok : goal.returns-in-Ok
 unfolding text
 returns-in-Ok c =
     let e = c.text.ensures.text ∙ ap text (sym c.in-Ok.is) in
-    record { len = c.copy-to.ensures.len ∙ ap length e; short = c.copy-to.ensures.short; buffer = copied _ _ _ _ e c.copy-to.ensures.buffer }
+    record { len = c.copy_to.ensures.len ∙ ap length e; short = c.copy_to.ensures.short; buffer = copied _ _ _ _ e c.copy_to.ensures.buffer }
 
 pub returns-in-Err : goal.returns-in-Err
 unfolding text
 returns-in-Err c =
     let e = c.text_in-Err.ensures.text ∙ ap text (sym c.in-Err.is) in
-    record { len = c.copy-to-in-Err.ensures.len ∙ ap length e; short = c.copy-to-in-Err.ensures.short; buffer = copied _ _ _ _ e c.copy-to-in-Err.ensures.buffer }
+    record { len = c.copy_to-in-Err.ensures.len ∙ ap length e; short = c.copy_to-in-Err.ensures.short; buffer = copied _ _ _ _ e c.copy_to-in-Err.ensures.buffer }

@@ -11,6 +11,6 @@ returns g c =
     record {
       played = played-more g.S.Store.room (Make ∷ []) (Load c.args.page.now ∷ []) _ (plain_of means c.args.empty.book) _ _ (vec_items c.args.empty.answers) _ c.requires.played
           (played-one g.S.Store.room (Load c.args.page.now) _ _ c.load-answer.result (vec_items c.args.empty.answers) _ c.load-answer.ensures.turned c.requires.whole.lawful c.load-answer.ensures.whole.lawful
-          (pushed (c.load-answer.result ∷ []) refl c.in-ok-push.was c.push.ensures.items));
+          (pushed (c.load-answer.result ∷ []) refl c.in_ok-push.was c.push.ensures.items));
       whole = c.load-answer.ensures.whole;
     }

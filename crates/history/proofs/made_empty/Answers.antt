@@ -14,6 +14,6 @@ returns g c =
     let is : p ≡ empty = c.make-book.ensures.empty in
     record {
       played = played-one g.S.Store.room Make empty p answer.Done [] (vec_items c.push.new.self) (record { answered = refl; left = is })
-          (subst Lawful is c.make-book.ensures.whole.lawful) c.make-book.ensures.whole.lawful (pushed (answer.Done ∷ []) c.new-answers.ensures.items c.in-ok-push.was c.push.ensures.items);
+          (subst Lawful is c.make-book.ensures.whole.lawful) c.make-book.ensures.whole.lawful (pushed (answer.Done ∷ []) c.new-answers.ensures.items c.in_ok-push.was c.push.ensures.items);
       whole = c.make-book.ensures.whole;
     }

@@ -17,11 +17,11 @@ loop-call-preserved g c =
     let calls = c.args.calls.now in
     let list : map request_of (take (i + 1) calls) ≡ map request_of (take i calls) ++ request_of x ∷ [] =
     ap (map request_of) (take_more calls i x c.loop-call-test.true) ∙ map-append request_of (take i calls) (get_or calls i x ∷ []) ∙ ap (λ (y : Call). map request_of (take i calls) ++ request_of y ∷ []) (sym c.call-item.is) in (
-      c.in-ok-answer.ensures.whole,
+      c.in_ok-answer.ensures.whole,
       subst (λ (rs : List Request). Played g.S.Store.room rs (plain_of means c.args.book.now) (plain_of means c.turn.new.book) (vec_items c.args.answers.now) (vec_items c.push.new.self)) (sym list)
           (played-more g.S.Store.room (map request_of (take i calls)) (request_of x ∷ []) _ (plain_of means c.loop-call.book) _ _ (vec_items c.loop-call.answers) _ c.loop-call.invariant.1
-          (played-one g.S.Store.room (request_of x) _ _ c.in-ok-answer.answer (vec_items c.loop-call.answers) (vec_items c.push.new.self) c.in-ok-answer.ensures.turned c.loop-call.invariant.0.lawful c.in-ok-answer.ensures.whole.lawful
-          (pushed (c.in-ok-answer.answer ∷ []) refl c.in-ok-push.was c.push.ensures.items))),
+          (played-one g.S.Store.room (request_of x) _ _ c.in_ok-answer.answer (vec_items c.loop-call.answers) (vec_items c.push.new.self) c.in_ok-answer.ensures.turned c.loop-call.invariant.0.lawful c.in_ok-answer.ensures.whole.lawful
+          (pushed (c.in_ok-answer.answer ∷ []) refl c.in_ok-push.was c.push.ensures.items))),
     )
 
 pub returns : goal.returns

@@ -8,8 +8,8 @@ use Rattle.history.proofs.replay.Goals as goal
 pub returns : goal.returns
 returns g c =
     let means = g.S.Map.meaning in
-    let begun = c.in-ok-replayed.ensures in
-    let done = c.in-ok-play.ensures in
+    let begun = c.in_ok-replayed.ensures in
+    let done = c.in_ok-play.ensures in
     let all =
-    played-more g.S.Store.room (opening c.args.start.now) (map request_of c.args.calls.now) _ (plain_of means c.in-ok-replayed.replayed.book) _ _ (vec_items c.in-ok-replayed.replayed.answers) _ begun.played done.played in
+    played-more g.S.Store.room (opening c.args.start.now) (map request_of c.args.calls.now) _ (plain_of means c.in_ok-replayed.replayed.book) _ _ (vec_items c.in_ok-replayed.replayed.answers) _ begun.played done.played in
     promised means g.S.Store.room (opening c.args.start.now ++ map request_of c.args.calls.now) c.play.new.book (map reply_of (vec_items c.play.new.answers)) done.whole all.left all.answered all.lawful

@@ -2,10 +2,10 @@ use Rattle.std.proofs.Common.{arith}
 use Rattle.lines.proofs.Runs.{digit-stops, digit-goes, digit-ends, value-goes, not-followed, is-followed}
 use Rattle.lines.proofs.leading_digits.Goals as goal
 
-pub returns-in-default : goal.returns-in-default
-returns-in-default c = record {
+pub returns-in_default : goal.returns-in_default
+returns-in_default c = record {
   within = omega arith;
-  len = digit-stops c.args.text.now c.loop-x.value c.loop-x.n c.loop-x.x-index c.loop-x.invariant.0 c.loop-x-test.true c.loop-x.invariant.1 (not-followed _ _ c.in-default.ensures);
+  len = digit-stops c.args.text.now c.loop-x.value c.loop-x.n c.loop-x.x-index c.loop-x.invariant.0 c.loop-x-test.true c.loop-x.invariant.1 (not-followed _ _ c.in_default.ensures);
   value = c.loop-x.invariant.2;
 }
 

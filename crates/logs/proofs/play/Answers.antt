@@ -7,20 +7,20 @@ use Rattle.logs.proofs.play.Goals as goal
 pub loop-rest-init : goal.loop-rest-init
 loop-rest-init g c = (begun g.S.Store.room (named_of g.S.Map.meaning c.args.book.now) c.args.log.now (vec_items c.args.out.now), c.requires)
 
-pub returns-in-err-add-answer : goal.returns-in-err-add-answer
-returns-in-err-add-answer g c =
+pub returns-in_err-add_answer : goal.returns-in_err-add_answer
+returns-in_err-add_answer g c =
     let m = g.S.Map.meaning in
-    let answered = c.in-err-add-answer.ensures in
+    let answered = c.in_err-add_answer.ensures in
     record {
-      outcome = stopped g.S.Store.room (named_of m c.args.book.now) c.args.log.now (vec_items c.args.out.now) c.loop-rest.rest.now (named_of m c.loop-rest.book) (vec_items c.loop-rest.out) c.split-line.result.0.now _ _ c.from-residual.result c.from-residual.ensures.0 c.loop-rest.invariant.0 (ltb-true 0 (length c.loop-rest.rest.now) (sym c.loop-rest-test.ensures)) c.split-line.ensures.line answered.written answered.left;
+      outcome = stopped g.S.Store.room (named_of m c.args.book.now) c.args.log.now (vec_items c.args.out.now) c.loop-rest.rest.now (named_of m c.loop-rest.book) (vec_items c.loop-rest.out) c.split_line.result.0.now _ _ c.from-residual.result c.from-residual.ensures.0 c.loop-rest.invariant.0 (ltb-true 0 (length c.loop-rest.rest.now) (sym c.loop-rest-test.ensures)) c.split_line.ensures.line answered.written answered.left;
       agreed = answered.agreed;
     }
 
 pub loop-rest-preserved : goal.loop-rest-preserved
 loop-rest-preserved g c =
     let m = g.S.Map.meaning in
-    let answered = c.in-ok-add-answer.ensures in (
-      more g.S.Store.room (named_of m c.args.book.now) c.args.log.now (vec_items c.args.out.now) c.loop-rest.rest.now (named_of m c.loop-rest.book) (vec_items c.loop-rest.out) c.split-line.result.0.now c.split-line.result.1.now _ _ c.loop-rest.invariant.0 (ltb-true 0 (length c.loop-rest.rest.now) (sym c.loop-rest-test.ensures)) c.split-line.ensures.line c.split-line.ensures.rest answered.written answered.left,
+    let answered = c.in_ok-add_answer.ensures in (
+      more g.S.Store.room (named_of m c.args.book.now) c.args.log.now (vec_items c.args.out.now) c.loop-rest.rest.now (named_of m c.loop-rest.book) (vec_items c.loop-rest.out) c.split_line.result.0.now c.split_line.result.1.now _ _ c.loop-rest.invariant.0 (ltb-true 0 (length c.loop-rest.rest.now) (sym c.loop-rest-test.ensures)) c.split_line.ensures.line c.split_line.ensures.rest answered.written answered.left,
       answered.agreed,
     )
 

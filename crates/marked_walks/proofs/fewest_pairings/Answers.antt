@@ -22,19 +22,19 @@ returns-then-contains g c =
     }
 
 -- one turn: the invariant again, and fewer numbers left
-turn : (g : given.Over) (c : goal.After-next-level-level g)
-    → Level (g.M.Map.meaning c.args.m.now) c.args.s c.args.t (c.loop-level.n + 1) (g.K.Marks.marked c.next-level-level.new.seen) (has c.next-level-level.result)
-    × (left (g.K.Marks.marked c.next-level-level.new.seen) (has c.next-level-level.result) < left (g.K.Marks.marked c.loop-level.seen) (has c.loop-level.level))
+turn : (g : given.Over) (c : goal.After-next_level-level g)
+    → Level (g.M.Map.meaning c.args.m.now) c.args.s c.args.t (c.loop-level.n + 1) (g.K.Marks.marked c.next_level-level.new.seen) (has c.next_level-level.result)
+    × (left (g.K.Marks.marked c.next_level-level.new.seen) (has c.next_level-level.result) < left (g.K.Marks.marked c.loop-level.seen) (has c.loop-level.level))
 turn g c =
     let some = c.loop-level-test.ensures in
-    level-more (g.M.Map.meaning c.args.m.now) c.sound.ensures c.args.s c.args.t c.loop-level.n (g.K.Marks.marked c.loop-level.seen) (has c.loop-level.level) (has c.next-level-level.result) (g.K.Marks.marked c.next-level-level.new.seen)
-    c.next-level-level.ensures.next c.next-level-level.ensures.seen c.loop-level.invariant.0 some.0 some.1 (sym {b = has c.loop-level.level c.args.t} c.if-contains.ensures)
+    level-more (g.M.Map.meaning c.args.m.now) c.sound.ensures c.args.s c.args.t c.loop-level.n (g.K.Marks.marked c.loop-level.seen) (has c.loop-level.level) (has c.next_level-level.result) (g.K.Marks.marked c.next_level-level.new.seen)
+    c.next_level-level.ensures.next c.next_level-level.ensures.seen c.loop-level.invariant.0 some.0 some.1 (sym {b = has c.loop-level.level c.args.t} c.if-contains.ensures)
 
 pub loop-level-smaller : goal.loop-level-smaller
 loop-level-smaller g c = (turn g c).1
 
 pub loop-level-preserved : goal.loop-level-preserved
-loop-level-preserved g c = ((turn g c).0, c.next-level-level.ensures.below ∙ c.loop-level.invariant.1)
+loop-level-preserved g c = ((turn g c).0, c.next_level-level.ensures.below ∙ c.loop-level.invariant.1)
 
 pub returns : goal.returns
 returns g c = record {

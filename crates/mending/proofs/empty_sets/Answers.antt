@@ -15,7 +15,7 @@ loop-u-preserved c =
 
 pub returns : goal.returns
 returns c = record {
-  sets = emptying-all (has c.args.gone.now) c.loop-u.c c.in-default.ensures (holds c.args.table.now) (holds c.loop-u.table) c.loop-u.total c.loop-u.invariant;
+  sets = emptying-all (has c.args.gone.now) c.loop-u.c c.in_default.ensures (holds c.args.table.now) (holds c.loop-u.table) c.loop-u.total c.loop-u.invariant;
   number = c.loop-u.invariant.number;
   most = let few = c.loop-u.invariant.most in let small = c.loop-u.invariant.small in omega arith;
 }

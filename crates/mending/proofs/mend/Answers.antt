@@ -4,15 +4,15 @@ use Rattle.mending.proofs.Renewing.{order-short}
 use Rattle.mending.proofs.Exactly.{mended}
 use Rattle.mending.proofs.mend.Goals as goal
 
-pub overflow-add-result : goal.overflow-add-result
-overflow-add-result g c =
+pub overflow_add-result : goal.overflow_add-result
+overflow_add-result g c =
     let short = order-short (g.M.Map.meaning c.args.m.now) c.sound.ensures c.args.order.now c.requires in
-    let few = c.renew-all-renewed.ensures.most in
-    let rest = c.empty-gone.ensures.most in
+    let few = c.renew_all-renewed.ensures.most in
+    let rest = c.empty_gone.ensures.most in
     omega arith
 
 pub returns : goal.returns
 returns g c =
-    let gone = c.empty-gone in
-    mended (g.M.Map.meaning c.args.m.now) c.sound.ensures c.args.order.now c.requires c.args.ups.now c.args.downs.now c.args.labels.now c.renew-all-renewed.new.labels gone.new.labels
-    c.renew-all-renewed.result gone.result c.renew-all-renewed.ensures (has c.units.result) c.units.ensures gone.ensures.ins gone.ensures.outs gone.ensures.number
+    let gone = c.empty_gone in
+    mended (g.M.Map.meaning c.args.m.now) c.sound.ensures c.args.order.now c.requires c.args.ups.now c.args.downs.now c.args.labels.now c.renew_all-renewed.new.labels gone.new.labels
+    c.renew_all-renewed.result gone.result c.renew_all-renewed.ensures (has c.units.result) c.units.ensures gone.ensures.ins gone.ensures.outs gone.ensures.number

@@ -10,16 +10,16 @@ loop-k-init g c = (
   firsts-none c.args.order.now (has c.empty-done.result) c.empty-done.ensures,
 )
 
-pub overflow-add-total : goal.overflow-add-total
-overflow-add-total g c =
+pub overflow_add-total : goal.overflow_add-total
+overflow_add-total g c =
     let short = order-short (g.M.Map.meaning c.args.m.now) c.sound.ensures c.args.order.now c.requires in
     let few = c.loop-k.invariant.0.most in
-    let most = c.renew-both-total.ensures.most in
+    let most = c.renew_both-total.ensures.most in
     omega arith
 
 pub loop-k-preserved : goal.loop-k-preserved
 loop-k-preserved g c =
-    let turn = c.renew-both-total in (
+    let turn = c.renew_both-total in (
       renewed-more (g.M.Map.meaning c.args.m.now) c.args.order.now c.requires (has c.args.ups.now) (has c.args.downs.now) c.loop-k.k (omega arith)
           c.args.labels.now c.loop-k.labels turn.new.labels c.loop-k.total turn.result turn.ensures.ins turn.ensures.outs turn.ensures.number turn.ensures.most c.loop-k.invariant.0,
       firsts_more c.args.order.now c.loop-k.k (has c.loop-k.done) (has c.insert.new.self) c.insert.ensures c.loop-k.invariant.1,

@@ -8,6 +8,6 @@ pub returns : goal.returns
 returns c = record {
   row = c.set.ensures;
   number = difference-one (holds c.args.table.now) (holds c.set.new.self) c.args.u (has c.of-old.result) (has c.args.set) c.from.result
-      (omega arith) c.of-old.ensures c.set.ensures (c.from.ensures ∙ c.difference-len.ensures.number);
-  most = let few = c.difference-len.ensures.most in let same = c.from.ensures in omega arith;
+      (omega arith) c.of-old.ensures c.set.ensures (c.from.ensures ∙ c.difference_len.ensures.number);
+  most = let few = c.difference_len.ensures.most in let same = c.from.ensures in omega arith;
 }

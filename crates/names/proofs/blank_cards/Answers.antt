@@ -9,4 +9,4 @@ all-blank card (suc n) zero e = e
 all-blank card (suc n) (suc u) e = all-blank card n u e
 
 pub returns : goal.returns
-returns c u = all-blank c.blank-card.result 256 u c.blank-card.ensures
+returns c u = all-blank c.blank_card.result 256 u c.blank_card.ensures

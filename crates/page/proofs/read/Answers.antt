@@ -4,11 +4,11 @@ use Rattle.std.proofs.lemmas.Bool.{both_ways}
 use Rattle.page_laws.proofs.Causes.{refused-page}
 use Rattle.page.proofs.read.Goals as goal
 
-pub returns-then-not-is-formed : goal.returns-then-not-is-formed
-returns-then-not-is-formed c = refused-page c.args.page.now (λ p. both_ways _ (sym c.if-not-is-formed.ensures) p.form)
+pub returns-then-not-is_formed : goal.returns-then-not-is_formed
+returns-then-not-is_formed c = refused-page c.args.page.now (λ p. both_ways _ (sym c.if-not-is_formed.ensures) p.form)
 
-pub returns-in-default : goal.returns-in-default
-returns-in-default c = refused-page c.args.page.now c.in-default.ensures
+pub returns-in_default : goal.returns-in_default
+returns-in_default c = refused-page c.args.page.now c.in_default.ensures
 
-pub returns-in-default-read-rows : goal.returns-in-default-read-rows
-returns-in-default-read-rows c = refused-page c.args.page.now c.in-default-read-rows.ensures
+pub returns-in_default-read_rows : goal.returns-in_default-read_rows
+returns-in_default-read_rows c = refused-page c.args.page.now c.in_default-read_rows.ensures

@@ -2,8 +2,8 @@ use Rattle.std.proofs.Common.{◌∙◌}
 use Rattle.places.proofs.Trying.{short, tried}
 use Rattle.places.proofs.total_at.Goals as goal
 
-pub total-of-requires : goal.total-of-requires
-total-of-requires g c = short (g.M.Map.meaning c.args.m.now) c.sound.ensures _ _ (c.as-slice-order.ensures ∙ c.insert.ensures) c.requires.orders
+pub total_of-requires : goal.total_of-requires
+total_of-requires g c = short (g.M.Map.meaning c.args.m.now) c.sound.ensures _ _ (c.as_slice-order.ensures ∙ c.insert.ensures) c.requires.orders
 
 pub returns : goal.returns
-returns g c = tried (g.M.Map.meaning c.args.m.now) c.sound.ensures _ _ (c.as-slice-order.ensures ∙ c.insert.ensures) c.requires.orders c.build.result c.build.ensures c.total-of.result c.total-of.ensures
+returns g c = tried (g.M.Map.meaning c.args.m.now) c.sound.ensures _ _ (c.as_slice-order.ensures ∙ c.insert.ensures) c.requires.orders c.build.result c.build.ensures c.total_of.result c.total_of.ensures

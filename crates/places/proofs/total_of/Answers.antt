@@ -12,8 +12,8 @@ loop-u-preserved c =
     let most = c.loop-u.invariant.1 in
     (total-more (rows_of c.args.labels.now) c.args.order.now c.loop-u.u-index c.loop-u.sum c.holders-sum.result c.loop-u-test.true c.holders-sum.ensures.number c.loop-u.invariant.0, omega arith)
 
-pub overflow-add-sum : goal.overflow-add-sum
-overflow-add-sum c =
+pub overflow_add-sum : goal.overflow_add-sum
+overflow_add-sum c =
     let few = c.holders-sum.ensures.most in
     let most = c.loop-u.invariant.1 in
     omega arith

@@ -15,12 +15,12 @@ returns-then-contains g c =
 
 -- one turn: the invariant again, and fewer numbers left
 turn : (g : given.Over) (c : goal.After-union-seen g)
-    → Level (g.M.Map.meaning c.args.m.now) c.args.s c.args.t (c.loop-seen.n + 1) (has c.union-seen.result) (has c.next-level-level.result)
-    × (left (has c.union-seen.result) (has c.next-level-level.result) < left (has c.loop-seen.seen) (has c.loop-seen.level))
+    → Level (g.M.Map.meaning c.args.m.now) c.args.s c.args.t (c.loop-seen.n + 1) (has c.union-seen.result) (has c.next_level-level.result)
+    × (left (has c.union-seen.result) (has c.next_level-level.result) < left (has c.loop-seen.seen) (has c.loop-seen.level))
 turn g c =
     let some = c.loop-seen-test.ensures in
-    level-more (g.M.Map.meaning c.args.m.now) c.sound.ensures c.args.s c.args.t c.loop-seen.n (has c.loop-seen.seen) (has c.loop-seen.level) (has c.next-level-level.result) (has c.union-seen.result)
-    c.next-level-level.ensures c.union-seen.ensures c.loop-seen.invariant some.0 some.1 (sym {b = has c.loop-seen.level c.args.t} c.if-contains.ensures)
+    level-more (g.M.Map.meaning c.args.m.now) c.sound.ensures c.args.s c.args.t c.loop-seen.n (has c.loop-seen.seen) (has c.loop-seen.level) (has c.next_level-level.result) (has c.union-seen.result)
+    c.next_level-level.ensures c.union-seen.ensures c.loop-seen.invariant some.0 some.1 (sym {b = has c.loop-seen.level c.args.t} c.if-contains.ensures)
 
 pub loop-seen-smaller : goal.loop-seen-smaller
 loop-seen-smaller g c = (turn g c).1

@@ -11,10 +11,10 @@ use Rattle.book.proofs.Changing.{AllAbsent, all-absent, refused, not-refused, me
 use Rattle.book.proofs.Moving.{one_known, drop-done, orders-at}
 use Rattle.book.proofs.Book.drop_unit.Goals as goal
 
-pub returns-in-err-check-unit : goal.returns-in-err-check-unit
+pub returns-in_err-check_unit : goal.returns-in_err-check_unit
 unfolding checks
-returns-in-err-check-unit g c = record {
-  applied = refused g.S.Store.room (g.S.Map.meaning c.args.self.now.store) (order_of c.args.self.now.ranks) (Drop c.args.v) c.from-residual.result _ c.in-err-check-unit.ensures c.from-residual.ensures.1;
+returns-in_err-check_unit g c = record {
+  applied = refused g.S.Store.room (g.S.Map.meaning c.args.self.now.store) (order_of c.args.self.now.ranks) (Drop c.args.v) c.from-residual.result _ c.in_err-check_unit.ensures c.from-residual.ensures.1;
   whole = c.requires;
   kept = λ cause e. refl;
 }
@@ -23,25 +23,25 @@ pub touched-requires : goal.touched-requires
 touched-requires g c =
     let m = g.S.Map.meaning c.args.self.now.store in
     let order = order_of c.args.self.now.ranks in
-    let passed = no-cause _ (tt {0}) c.in-ok-check-unit.ensures in
+    let passed = no-cause _ (tt {0}) c.in_ok-check_unit.ensures in
     let there = one_known order c.args.v (all-absent (unknown (plain_by m order) (c.args.v ∷ []) ∷ []) passed).0 in
     record { whole = c.requires; stand = (there, there) }
 
-pub mend-labels-requires : goal.mend-labels-requires
-mend-labels-requires g c =
+pub mend_labels-requires : goal.mend_labels-requires
+mend_labels-requires g c =
     let m = g.S.Map.meaning c.args.self.now.store in
     let order = order_of c.args.self.now.ranks in
     let k = keeps m order c.args.self.now.labels c.requires in
-    orders-at _ _ _ _ c.in-ok-take.ensures.1 c.remove.ensures (drop_orders m order k.orders c.args.v)
+    orders-at _ _ _ _ c.in_ok-take.ensures.1 c.remove.ensures (drop_orders m order k.orders c.args.v)
 
 pub returns : goal.returns
 returns g c =
     let m = g.S.Map.meaning c.args.self.now.store in
     let order = order_of c.args.self.now.ranks in
     let k = keeps m order c.args.self.now.labels c.requires in
-    let passed = no-cause _ (tt {0}) c.in-ok-check-unit.ensures in
+    let passed = no-cause _ (tt {0}) c.in_ok-check_unit.ensures in
     let done = drop-done m order c.args.self.now.labels k c.args.v g.S.Store.room passed c.touched.result.0 c.touched.result.1 c.touched.ensures.ups c.touched.ensures.downs
-    c.mend-labels.new.self.labels c.mend-labels.result (g.S.Map.meaning c.mend-labels.new.self.store) (order_of c.mend-labels.new.self.ranks)
-    (mended-at _ (without_unit c.args.v m) _ (removed c.args.v order) _ _ _ _ _ c.in-ok-take.ensures.1 c.remove.ensures c.mend-labels.ensures.mended)
-    (ap g.S.Map.meaning c.mend-labels.ensures.store ∙ c.in-ok-take.ensures.1) (ap order_of c.mend-labels.ensures.ranks ∙ c.remove.ensures) in
-    record { applied = done.0; whole = done.1; kept = λ cause e. not-refused c.mend-labels.result cause e }
+    c.mend_labels.new.self.labels c.mend_labels.result (g.S.Map.meaning c.mend_labels.new.self.store) (order_of c.mend_labels.new.self.ranks)
+    (mended-at _ (without_unit c.args.v m) _ (removed c.args.v order) _ _ _ _ _ c.in_ok-take.ensures.1 c.remove.ensures c.mend_labels.ensures.mended)
+    (ap g.S.Map.meaning c.mend_labels.ensures.store ∙ c.in_ok-take.ensures.1) (ap order_of c.mend_labels.ensures.ranks ∙ c.remove.ensures) in
+    record { applied = done.0; whole = done.1; kept = λ cause e. not-refused c.mend_labels.result cause e }

@@ -13,10 +13,10 @@ use Rattle.book.proofs.Moving.{orders-at}
 use Rattle.book.proofs.Enrolling.{new, absent-unit, rank-low, rank-place, sources-once, listeners-once, room, enrol-done, with-own}
 use Rattle.book.proofs.Book.enrol.Goals as goal
 
-pub returns-in-err-check-enrol : goal.returns-in-err-check-enrol
+pub returns-in_err-check_enrol : goal.returns-in_err-check_enrol
 unfolding checks
-returns-in-err-check-enrol g c = record {
-  applied = refused g.S.Store.room (g.S.Map.meaning c.args.self.now.store) (order_of c.args.self.now.ranks) (Enrol c.args.v c.args.k c.args.sources.now c.args.listeners.now) c.from-residual.result _ c.in-err-check-enrol.ensures c.from-residual.ensures.1;
+returns-in_err-check_enrol g c = record {
+  applied = refused g.S.Store.room (g.S.Map.meaning c.args.self.now.store) (order_of c.args.self.now.ranks) (Enrol c.args.v c.args.k c.args.sources.now c.args.listeners.now) c.from-residual.result _ c.in_err-check_enrol.ensures c.from-residual.ensures.1;
   whole = c.requires;
   kept = λ cause e. refl;
 }
@@ -27,19 +27,19 @@ attach-requires g c =
     let order = order_of c.args.self.now.ranks in
     let k = keeps m order c.args.self.now.labels c.requires in
     let small : c.args.v ≤ 255 = omega (arith, c.ranges.v.fits) in
-    let passed = no-cause _ (tt {0}) c.in-ok-check-enrol.ensures in
+    let passed = no-cause _ (tt {0}) c.in_ok-check_enrol.ensures in
     record { new = new g.S.Store.room m order c.args.self.now.labels k c.args.v c.args.k small c.args.sources.now c.args.listeners.now passed; once = (sources-once g.S.Store.room m order c.args.self.now.labels k c.args.v c.args.k small c.args.sources.now c.args.listeners.now passed, listeners-once g.S.Store.room m order c.args.self.now.labels k c.args.v c.args.k small c.args.sources.now c.args.listeners.now passed); fits = room g.S.Store.room m order c.args.self.now.labels k c.args.v c.args.k small c.args.sources.now c.args.listeners.now passed }
 
-pub returns-in-err-attach : goal.returns-in-err-attach
-returns-in-err-attach g c = absurd (let z : ◌≡◌ {A = ℕ} 0 1 = cc c.in-err-attach.ensures.granted in omega arith)
+pub returns-in_err-attach : goal.returns-in_err-attach
+returns-in_err-attach g c = absurd (let z : ◌≡◌ {A = ℕ} 0 1 = cc c.in_err-attach.ensures.granted in omega arith)
 
-pub overflow-sub-k : goal.overflow-sub-k
-overflow-sub-k g c =
+pub overflow_sub-k : goal.overflow_sub-k
+overflow_sub-k g c =
     let m = g.S.Map.meaning c.args.self.now.store in
     let order = order_of c.args.self.now.ranks in
     let k = keeps m order c.args.self.now.labels c.requires in
     let small : c.args.v ≤ 255 = omega (arith, c.ranges.v.fits) in
-    let passed = no-cause _ (tt {0}) c.in-ok-check-enrol.ensures in
+    let passed = no-cause _ (tt {0}) c.in_ok-check_enrol.ensures in
     rank-low g.S.Store.room m order c.args.self.now.labels k c.args.v c.args.k small c.args.sources.now c.args.listeners.now passed
 
 pub insert-requires-3 : goal.insert-requires-3
@@ -48,16 +48,16 @@ insert-requires-3 g c =
     let order = order_of c.args.self.now.ranks in
     let k = keeps m order c.args.self.now.labels c.requires in
     let small : c.args.v ≤ 255 = omega (arith, c.ranges.v.fits) in
-    let passed = no-cause _ (tt {0}) c.in-ok-check-enrol.ensures in
+    let passed = no-cause _ (tt {0}) c.in_ok-check_enrol.ensures in
     record { unit = (new g.S.Store.room m order c.args.self.now.labels k c.args.v c.args.k small c.args.sources.now c.args.listeners.now passed).low; absent = absent-unit g.S.Store.room m order c.args.self.now.labels k c.args.v c.args.k small c.args.sources.now c.args.listeners.now passed; within = rank-place g.S.Store.room m order c.args.self.now.labels k c.args.v c.args.k small c.args.sources.now c.args.listeners.now passed }
 
-pub mend-labels-requires : goal.mend-labels-requires
-mend-labels-requires g c =
+pub mend_labels-requires : goal.mend_labels-requires
+mend_labels-requires g c =
     let m = g.S.Map.meaning c.args.self.now.store in
     let order = order_of c.args.self.now.ranks in
     let k = keeps m order c.args.self.now.labels c.requires in
     let small : c.args.v ≤ 255 = omega (arith, c.ranges.v.fits) in
-    let passed = no-cause _ (tt {0}) c.in-ok-check-enrol.ensures in
+    let passed = no-cause _ (tt {0}) c.in_ok-check_enrol.ensures in
     orders-at _ _ _ _ c.attach.ensures.left c.insert-3.ensures (enrol_orders m order k.orders c.args.v c.args.sources.now c.args.listeners.now (new g.S.Store.room m order c.args.self.now.labels k c.args.v c.args.k small c.args.sources.now c.args.listeners.now passed).fresh (c.args.k - 1))
 
 pub returns : goal.returns
@@ -66,14 +66,14 @@ returns g c =
     let order = order_of c.args.self.now.ranks in
     let k = keeps m order c.args.self.now.labels c.requires in
     let small : c.args.v ≤ 255 = omega (arith, c.ranges.v.fits) in
-    let passed = no-cause _ (tt {0}) c.in-ok-check-enrol.ensures in
+    let passed = no-cause _ (tt {0}) c.in_ok-check_enrol.ensures in
     let n = new g.S.Store.room m order c.args.self.now.labels k c.args.v c.args.k small c.args.sources.now c.args.listeners.now passed in
-    let ups = c.heard-of-ups.ensures m (asked-at m order _ c.args.self.now.labels k c.as-slice.ensures) n.from in
-    let downs = c.hearers-of-downs.ensures m (asked-at m order _ c.args.self.now.labels k c.as-slice-2.ensures) n.to in
+    let ups = c.heard_of-ups.ensures m (asked-at m order _ c.args.self.now.labels k c.as_slice.ensures) n.from in
+    let downs = c.hearers_of-downs.ensures m (asked-at m order _ c.args.self.now.labels k c.as_slice-2.ensures) n.to in
     let done = enrol-done g.S.Store.room m order c.args.self.now.labels k c.args.v c.args.k small c.args.sources.now c.args.listeners.now passed c.insert.new.self c.insert-2.new.self
-    (with-own c.args.v c.heard-of-ups.result _ (λ u. some (λ s. is_heard m u s) c.args.sources.now) c.insert.ensures ups)
-    (with-own c.args.v c.hearers-of-downs.result _ (λ u. some (λ t. is_heard m t u) c.args.listeners.now) c.insert-2.ensures downs)
-    c.mend-labels.new.self.labels c.mend-labels.result (g.S.Map.meaning c.mend-labels.new.self.store) (order_of c.mend-labels.new.self.ranks)
-    (mended-at _ (enrolled c.args.v c.args.sources.now c.args.listeners.now m) _ (inserted (c.args.k - 1) c.args.v order) _ _ _ _ _ c.attach.ensures.left c.insert-3.ensures c.mend-labels.ensures.mended)
-    (ap g.S.Map.meaning c.mend-labels.ensures.store ∙ c.attach.ensures.left) (ap order_of c.mend-labels.ensures.ranks ∙ c.insert-3.ensures) in
-    record { applied = done.0; whole = done.1; kept = λ cause e. not-refused c.mend-labels.result cause e }
+    (with-own c.args.v c.heard_of-ups.result _ (λ u. some (λ s. is_heard m u s) c.args.sources.now) c.insert.ensures ups)
+    (with-own c.args.v c.hearers_of-downs.result _ (λ u. some (λ t. is_heard m t u) c.args.listeners.now) c.insert-2.ensures downs)
+    c.mend_labels.new.self.labels c.mend_labels.result (g.S.Map.meaning c.mend_labels.new.self.store) (order_of c.mend_labels.new.self.ranks)
+    (mended-at _ (enrolled c.args.v c.args.sources.now c.args.listeners.now m) _ (inserted (c.args.k - 1) c.args.v order) _ _ _ _ _ c.attach.ensures.left c.insert-3.ensures c.mend_labels.ensures.mended)
+    (ap g.S.Map.meaning c.mend_labels.ensures.store ∙ c.attach.ensures.left) (ap order_of c.mend_labels.ensures.ranks ∙ c.insert-3.ensures) in
+    record { applied = done.0; whole = done.1; kept = λ cause e. not-refused c.mend_labels.result cause e }

@@ -4,16 +4,16 @@ use Rattle.book.specs.Views.{plain_of}
 use Rattle.book.proofs.Answering.{answered-ok, answered-err, by-chains}
 use Rattle.book.proofs.Book.hear.Goals as goal
 
-pub returns-in-err-check-both : goal.returns-in-err-check-both
+pub returns-in_err-check_both : goal.returns-in_err-check_both
 unfolding checks
-returns-in-err-check-both g c =
+returns-in_err-check_both g c =
     let p = plain_of g.S.Map.meaning c.args.self.now in
-    let told = answered-err (verdict g.S.Store.room p (Hear c.args.s c.args.t)) _ c.from-residual.result _ c.in-err-check-both.ensures c.from-residual.ensures.1 in
+    let told = answered-err (verdict g.S.Store.room p (Hear c.args.s c.args.t)) _ c.from-residual.result _ c.in_err-check_both.ensures c.from-residual.ensures.1 in
     record { told = told; chains = by-chains (map_of p) c.requires.lawful.sound c.args.s c.args.t _ c.from-residual.result told }
 
 pub returns : goal.returns
 unfolding checks
 returns g c =
     let p = plain_of g.S.Map.meaning c.args.self.now in
-    let told = answered-ok (verdict g.S.Store.room p (Hear c.args.s c.args.t)) _ _ c.in-ok-check-both.ensures c.is-heard.ensures in
+    let told = answered-ok (verdict g.S.Store.room p (Hear c.args.s c.args.t)) _ _ c.in_ok-check_both.ensures c.is_heard.ensures in
     record { told = told; chains = by-chains (map_of p) c.requires.lawful.sound c.args.s c.args.t _ _ told }

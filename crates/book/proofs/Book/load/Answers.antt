@@ -11,10 +11,10 @@ use Rattle.book.proofs.Answering.{told-cause}
 use Rattle.book.proofs.Loading.{page-refused, room-refused, load-granted, load-refused, load_step, said-lawful, said-orders, said-agrees}
 use Rattle.book.proofs.Book.load.Goals as goal
 
-pub returns-in-err-contents : goal.returns-in-err-contents
-returns-in-err-contents g c =
+pub returns-in_err-contents : goal.returns-in_err-contents
+returns-in_err-contents g c =
     let p = plain_of g.S.Map.meaning c.args.self.now in
-    let v = page-refused g.S.Store.room p c.args.page.now _ c.in-err-contents.ensures in
+    let v = page-refused g.S.Store.room p c.args.page.now _ c.in_err-contents.ensures in
     record {
       told = told-cause (verdict g.S.Store.room p (Load c.args.page.now)) (tt {0}) c.from-residual.result _ v c.from-residual.ensures.1;
       left = load-refused g.S.Store.room p c.args.page.now _ v;
@@ -22,16 +22,16 @@ returns-in-err-contents g c =
       kept = λ cause e. refl;
     }
 
-pub returns-in-err-copy-map : goal.returns-in-err-copy-map
-returns-in-err-copy-map g c =
+pub returns-in_err-copy_map : goal.returns-in_err-copy_map
+returns-in_err-copy_map g c =
     let p = plain_of g.S.Map.meaning c.args.self.now in
-    let says = c.in-ok-contents.ensures in
-    let v = room-refused g.S.Store.room p c.args.page.now says.granted _ says.map _ c.in-err-copy-map.ensures.copied.0 in
-    let same : c.copy-map.new.into ≡ c.args.self.now.store = c.in-err-copy-map.ensures.kept _ refl in
+    let says = c.in_ok-contents.ensures in
+    let v = room-refused g.S.Store.room p c.args.page.now says.granted _ says.map _ c.in_err-copy_map.ensures.copied.0 in
+    let same : c.copy_map.new.into ≡ c.args.self.now.store = c.in_err-copy_map.ensures.kept _ refl in
     let whole : Book g.row.S.Denot → Type 0 = Whole g.S.Map.meaning in
     let book : g.row.S.Denot → Book g.row.S.Denot = λ s. record { store = s; ranks = c.args.self.now.ranks; labels = c.args.self.now.labels } in
     record {
-      told = told-cause (verdict g.S.Store.room p (Load c.args.page.now)) (tt {0}) c.from-residual-in-err-copy-map.result _ v c.from-residual-in-err-copy-map.ensures.1;
+      told = told-cause (verdict g.S.Store.room p (Load c.args.page.now)) (tt {0}) c.from-residual-in_err-copy_map.result _ v c.from-residual-in_err-copy_map.ensures.1;
       left = ap (λ s. plain_of g.S.Map.meaning (book s)) same ∙ load-refused g.S.Store.room p c.args.page.now _ v;
       whole = subst (λ s. whole (book s)) (sym same) c.requires;
       kept = λ cause e. ap book same;
@@ -39,21 +39,21 @@ returns-in-err-copy-map g c =
 
 pub build-self-requires : goal.build-self-requires
 build-self-requires g c =
-    let says = c.in-ok-contents.ensures in
+    let says = c.in_ok-contents.ensures in
     let page = c.args.page.now in
-    said-orders page _ (matrix_map c.in-ok-contents.contents.map) says.map (c.as-slice.ensures ∙ says.ranks) (said-lawful page _ says.granted says.ranks c.lawful.ensures)
+    said-orders page _ (matrix_map c.in_ok-contents.contents.map) says.map (c.as_slice.ensures ∙ says.ranks) (said-lawful page _ says.granted says.ranks c.lawful.ensures)
 
 pub returns : goal.returns
 returns g c =
-    let says = c.in-ok-contents.ensures in
+    let says = c.in_ok-contents.ensures in
     let page = c.args.page.now in
     let p = plain_of g.S.Map.meaning c.args.self.now in
-    let copied = c.in-ok-copy-map.ensures.copied in
+    let copied = c.in_ok-copy_map.ensures.copied in
     let v = load-granted g.S.Store.room p page says.granted _ says.map copied.0 in
     let law = said-lawful page _ says.granted says.ranks c.lawful.ensures in
     record {
       told = ap (λ w. answered w (tt {0})) (sym v);
       left = load_step g.S.Store.room p page v _ _ (copied.1 ∙ says.map) says.ranks;
-      whole = said-agrees page _ _ _ _ _ _ law says.map (copied.1 ∙ says.map) says.ranks c.as-slice.ensures refl c.build-self.ensures;
+      whole = said-agrees page _ _ _ _ _ _ law says.map (copied.1 ∙ says.map) says.ranks c.as_slice.ensures refl c.build-self.ensures;
       kept = λ cause e. absurd (let z : ◌≡◌ {A = ℕ} 0 1 = cc in omega arith);
     }

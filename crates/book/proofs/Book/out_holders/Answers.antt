@@ -8,14 +8,14 @@ use Rattle.book.proofs.Listing.{list-refused, list-told, by_order}
 use Rattle.book.proofs.Keeping.{out-holders-kept}
 use Rattle.book.proofs.Book.out_holders.Goals as goal
 
-pub returns-in-err-check-unit : goal.returns-in-err-check-unit
+pub returns-in_err-check_unit : goal.returns-in_err-check_unit
 unfolding checks
-returns-in-err-check-unit g c =
+returns-in_err-check_unit g c =
     let p = plain_of g.S.Map.meaning c.args.self.now in
     let kept = out-holders-kept (map_of p) p.order c.args.self.now.labels c.requires.exact c.args.u in
     record {
       listed =
-          (list-refused g.S.Store.room p (OutHolders c.args.u (length c.args.buffer.now)) (out_holders (map_of p) p.order c.args.u) c.args.buffer.now c.args.u refl _ c.from-residual.result c.in-err-check-unit.ensures c.from-residual.ensures.1);
+          (list-refused g.S.Store.room p (OutHolders c.args.u (length c.args.buffer.now)) (out_holders (map_of p) p.order c.args.u) c.args.buffer.now c.args.u refl _ c.from-residual.result c.in_err-check_unit.ensures c.from-residual.ensures.1);
       kept = kept;
     }
 
@@ -26,6 +26,6 @@ returns g c =
     let kept = out-holders-kept (map_of p) p.order c.args.self.now.labels c.requires.exact c.args.u in
     record {
       listed =
-          (list-told g.S.Store.room p (OutHolders c.args.u (length c.args.buffer.now)) (out_holders (map_of p) p.order c.args.u) c.args.buffer.now c.args.u refl _ c.fitted.result _ c.in-ok-check-unit.ensures (by_order out_holders _ _ _ _ _ _ _ c.as-slice.ensures c.out-holders.ensures _ c.requires.exact) c.fitted.ensures);
+          (list-told g.S.Store.room p (OutHolders c.args.u (length c.args.buffer.now)) (out_holders (map_of p) p.order c.args.u) c.args.buffer.now c.args.u refl _ c.fitted.result _ c.in_ok-check_unit.ensures (by_order out_holders _ _ _ _ _ _ _ c.as_slice.ensures c.out_holders.ensures _ c.requires.exact) c.fitted.ensures);
       kept = kept;
     }

@@ -9,25 +9,25 @@ use Rattle.book.proofs.Changing.{AllAbsent, all-absent, refused, not-refused, me
 use Rattle.book.proofs.Pairing.{both-known, pair-done, join-granted}
 use Rattle.book.proofs.Book.pair.Goals as goal
 
-pub returns-in-err-check-pair : goal.returns-in-err-check-pair
+pub returns-in_err-check_pair : goal.returns-in_err-check_pair
 unfolding checks
-returns-in-err-check-pair g c = record {
-  applied = refused g.S.Store.room (g.S.Map.meaning c.args.self.now.store) (order_of c.args.self.now.ranks) (Pair c.args.a c.args.b) c.from-residual.result _ c.in-err-check-pair.ensures c.from-residual.ensures.1;
+returns-in_err-check_pair g c = record {
+  applied = refused g.S.Store.room (g.S.Map.meaning c.args.self.now.store) (order_of c.args.self.now.ranks) (Pair c.args.a c.args.b) c.from-residual.result _ c.in_err-check_pair.ensures c.from-residual.ensures.1;
   whole = c.requires;
   kept = λ cause e. refl;
 }
 
-pub returns-in-err-join : goal.returns-in-err-join
-returns-in-err-join g c =
+pub returns-in_err-join : goal.returns-in_err-join
+returns-in_err-join g c =
     let k = keeps _ _ _ c.requires in
-    let none = join-granted g.S.Store.room _ _ _ k c.args.a c.args.b (no-cause _ (tt {0}) c.in-ok-check-pair.ensures) in
-    absurd (let z : ◌≡◌ {A = ℕ} 0 1 = cc (none, c.in-err-join.ensures.0) in omega arith)
+    let none = join-granted g.S.Store.room _ _ _ k c.args.a c.args.b (no-cause _ (tt {0}) c.in_ok-check_pair.ensures) in
+    absurd (let z : ◌≡◌ {A = ℕ} 0 1 = cc (none, c.in_err-join.ensures.0) in omega arith)
 
 pub touched-requires : goal.touched-requires
 touched-requires g c =
     let m = g.S.Map.meaning c.args.self.now.store in
     let order = order_of c.args.self.now.ranks in
-    let passed = no-cause _ (tt {0}) c.in-ok-check-pair.ensures in
+    let passed = no-cause _ (tt {0}) c.in_ok-check_pair.ensures in
     record { whole = c.requires; stand = both-known order c.args.a c.args.b (all-absent (pair_checks g.S.Store.room (plain_by m order) c.args.a c.args.b) passed).0 }
 
 pub returns : goal.returns
@@ -35,10 +35,10 @@ returns g c =
     let m = g.S.Map.meaning c.args.self.now.store in
     let order = order_of c.args.self.now.ranks in
     let k = keeps m order c.args.self.now.labels c.requires in
-    let passed = no-cause _ (tt {0}) c.in-ok-check-pair.ensures in
-    let left = c.in-ok-join.ensures.1 in
+    let passed = no-cause _ (tt {0}) c.in_ok-check_pair.ensures in
+    let left = c.in_ok-join.ensures.1 in
     let done = pair-done g.S.Store.room m order c.args.self.now.labels k c.args.a c.args.b passed c.touched.result.0 c.touched.result.1 c.touched.ensures.ups c.touched.ensures.downs
-    c.mend-labels.new.self.labels c.mend-labels.result (g.S.Map.meaning c.mend-labels.new.self.store) (order_of c.mend-labels.new.self.ranks)
-    (mended-at _ (with_pair c.args.a c.args.b m) _ order _ _ _ _ _ left refl c.mend-labels.ensures.mended)
-    (ap g.S.Map.meaning c.mend-labels.ensures.store ∙ left) (ap order_of c.mend-labels.ensures.ranks) in
-    record { applied = done.0; whole = done.1; kept = λ cause e. not-refused c.mend-labels.result cause e }
+    c.mend_labels.new.self.labels c.mend_labels.result (g.S.Map.meaning c.mend_labels.new.self.store) (order_of c.mend_labels.new.self.ranks)
+    (mended-at _ (with_pair c.args.a c.args.b m) _ order _ _ _ _ _ left refl c.mend_labels.ensures.mended)
+    (ap g.S.Map.meaning c.mend_labels.ensures.store ∙ left) (ap order_of c.mend_labels.ensures.ranks) in
+    record { applied = done.0; whole = done.1; kept = λ cause e. not-refused c.mend_labels.result cause e }

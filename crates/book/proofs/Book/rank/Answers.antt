@@ -11,10 +11,10 @@ use Rattle.book.proofs.Pairing.{in_order}
 use Rattle.book.proofs.Moving.{one_known, rank-done, orders-at}
 use Rattle.book.proofs.Book.rank.Goals as goal
 
-pub returns-in-err-check-rank : goal.returns-in-err-check-rank
+pub returns-in_err-check_rank : goal.returns-in_err-check_rank
 unfolding checks
-returns-in-err-check-rank g c = record {
-  applied = refused g.S.Store.room (g.S.Map.meaning c.args.self.now.store) (order_of c.args.self.now.ranks) (Rank c.args.v c.args.k) c.from-residual.result _ c.in-err-check-rank.ensures c.from-residual.ensures.1;
+returns-in_err-check_rank g c = record {
+  applied = refused g.S.Store.room (g.S.Map.meaning c.args.self.now.store) (order_of c.args.self.now.ranks) (Rank c.args.v c.args.k) c.from-residual.result _ c.in_err-check_rank.ensures c.from-residual.ensures.1;
   whole = c.requires;
   kept = λ cause e. refl;
 }
@@ -23,27 +23,27 @@ pub touched-requires : goal.touched-requires
 touched-requires g c =
     let m = g.S.Map.meaning c.args.self.now.store in
     let order = order_of c.args.self.now.ranks in
-    let passed = no-cause _ (tt {0}) c.in-ok-check-rank.ensures in
+    let passed = no-cause _ (tt {0}) c.in_ok-check_rank.ensures in
     let there = one_known order c.args.v (all-absent (rank_checks (plain_by m order) c.args.v c.args.k) passed).0 in
     record { whole = c.requires; stand = (there, there) }
 
-pub mend-labels-requires : goal.mend-labels-requires
-mend-labels-requires g c =
+pub mend_labels-requires : goal.mend_labels-requires
+mend_labels-requires g c =
     let m = g.S.Map.meaning c.args.self.now.store in
     let order = order_of c.args.self.now.ranks in
     let k = keeps m order c.args.self.now.labels c.requires in
-    let passed = no-cause _ (tt {0}) c.in-ok-check-rank.ensures in
+    let passed = no-cause _ (tt {0}) c.in_ok-check_rank.ensures in
     let unit = in_order m order k.orders c.args.v (one_known order c.args.v (all-absent (rank_checks (plain_by m order) c.args.v c.args.k) passed).0) in
-    orders-at _ _ _ _ refl c.move-to.ensures (rank_orders m order k.orders c.args.v unit (c.args.k - 1))
+    orders-at _ _ _ _ refl c.move_to.ensures (rank_orders m order k.orders c.args.v unit (c.args.k - 1))
 
 pub returns : goal.returns
 returns g c =
     let m = g.S.Map.meaning c.args.self.now.store in
     let order = order_of c.args.self.now.ranks in
     let k = keeps m order c.args.self.now.labels c.requires in
-    let passed = no-cause _ (tt {0}) c.in-ok-check-rank.ensures in
+    let passed = no-cause _ (tt {0}) c.in_ok-check_rank.ensures in
     let done = rank-done m order c.args.self.now.labels k c.args.v g.S.Store.room c.args.k passed c.touched.result.0 c.touched.result.1 c.touched.ensures.ups c.touched.ensures.downs
-    c.mend-labels.new.self.labels c.mend-labels.result (g.S.Map.meaning c.mend-labels.new.self.store) (order_of c.mend-labels.new.self.ranks)
-    (mended-at _ (m) _ (moved (c.args.k - 1) c.args.v order) _ _ _ _ _ refl c.move-to.ensures c.mend-labels.ensures.mended)
-    (ap g.S.Map.meaning c.mend-labels.ensures.store) (ap order_of c.mend-labels.ensures.ranks ∙ c.move-to.ensures) in
-    record { applied = done.0; whole = done.1; kept = λ cause e. not-refused c.mend-labels.result cause e }
+    c.mend_labels.new.self.labels c.mend_labels.result (g.S.Map.meaning c.mend_labels.new.self.store) (order_of c.mend_labels.new.self.ranks)
+    (mended-at _ (m) _ (moved (c.args.k - 1) c.args.v order) _ _ _ _ _ refl c.move_to.ensures c.mend_labels.ensures.mended)
+    (ap g.S.Map.meaning c.mend_labels.ensures.store) (ap order_of c.mend_labels.ensures.ranks ∙ c.move_to.ensures) in
+    record { applied = done.0; whole = done.1; kept = λ cause e. not-refused c.mend_labels.result cause e }

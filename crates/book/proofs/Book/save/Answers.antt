@@ -23,29 +23,29 @@ few m order pairings room e f g = let same = pair-count-same m (map_of (plain_by
 
 pub returns-then-not-fits : goal.returns-then-not-fits
 returns-then-not-fits g c =
-    save-refused g.S.Store.room (plain_of g.S.Map.meaning c.args.self.now) c.requires.lawful (few _ _ _ _ c.pairings-pairings.ensures.number c.pairings-pairings.ensures.within (subst (λ (n : ℕ). n ≤ 8000) c.capacity.ensures.number c.capacity.ensures.most)) c.args.place c.page-length-length.result c.args.buffer.now
-    (long _ _ _ _ _ c.page-length-length.ensures c.len.ensures c.pairings-pairings.ensures.number) (sym c.if-not-fits.ensures)
+    save-refused g.S.Store.room (plain_of g.S.Map.meaning c.args.self.now) c.requires.lawful (few _ _ _ _ c.pairings-pairings.ensures.number c.pairings-pairings.ensures.within (subst (λ (n : ℕ). n ≤ 8000) c.capacity.ensures.number c.capacity.ensures.most)) c.args.place c.page_length-length.result c.args.buffer.now
+    (long _ _ _ _ _ c.page_length-length.ensures c.len.ensures c.pairings-pairings.ensures.number) (sym c.if-not-fits.ensures)
 
 pub write-requires : goal.write-requires
 write-requires g c =
     let k = keeps (g.S.Map.meaning c.args.self.now.store) (order_of c.args.self.now.ranks) c.args.self.now.labels c.requires in
     let room = leb-true _ _ (sym c.if-not-fits.ensures) in
-    let part = c.args.place + c.page-length-length.result - c.args.place in
+    let part = c.args.place + c.page_length-length.result - c.args.place in
     let rest = length-drop c.args.place c.args.buffer.now in
     let size = length-take-le part (drop c.args.place c.args.buffer.now) (omega arith) in
-    let units = ap length c.as-slice.ensures in
+    let units = ap length c.as_slice.ensures in
     let within = c.pairings-pairings.ensures.within in
     record {
-      orders = subst (λ (xs : List ℕ). Orders (g.S.Map.meaning c.args.self.now.store) xs) (sym c.as-slice.ensures) k.orders;
+      orders = subst (λ (xs : List ℕ). Orders (g.S.Map.meaning c.args.self.now.store) xs) (sym c.as_slice.ensures) k.orders;
       number = c.pairings-pairings.ensures.number;
       few = omega (arith, c.capacity.ensures.number, c.capacity.ensures.most);
-      long = omega (arith, c.page-length-length.ensures, c.len.ensures);
+      long = omega (arith, c.page_length-length.ensures, c.len.ensures);
     }
 
 pub returns : goal.returns
 returns g c =
     let m = g.S.Map.meaning c.args.self.now.store in
-    let part : (c.args.place + c.page-length-length.result) - c.args.place ≡ c.page-length-length.result = omega arith in
-    save-done g.S.Store.room (plain_of g.S.Map.meaning c.args.self.now) c.requires.lawful (few _ _ _ _ c.pairings-pairings.ensures.number c.pairings-pairings.ensures.within (subst (λ (n : ℕ). n ≤ 8000) c.capacity.ensures.number c.capacity.ensures.most)) c.args.place c.page-length-length.result c.args.buffer.now
-    (long _ _ _ _ _ c.page-length-length.ensures c.len.ensures c.pairings-pairings.ensures.number) (sym c.if-not-fits.ensures) _ part c.write.new.page
-    (c.write.ensures ∙ ap (λ (xs : List ℕ). saved_page (plain_by m xs)) c.as-slice.ensures)
+    let part : (c.args.place + c.page_length-length.result) - c.args.place ≡ c.page_length-length.result = omega arith in
+    save-done g.S.Store.room (plain_of g.S.Map.meaning c.args.self.now) c.requires.lawful (few _ _ _ _ c.pairings-pairings.ensures.number c.pairings-pairings.ensures.within (subst (λ (n : ℕ). n ≤ 8000) c.capacity.ensures.number c.capacity.ensures.most)) c.args.place c.page_length-length.result c.args.buffer.now
+    (long _ _ _ _ _ c.page_length-length.ensures c.len.ensures c.pairings-pairings.ensures.number) (sym c.if-not-fits.ensures) _ part c.write.new.page
+    (c.write.ensures ∙ ap (λ (xs : List ℕ). saved_page (plain_by m xs)) c.as_slice.ensures)

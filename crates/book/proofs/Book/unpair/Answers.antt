@@ -9,10 +9,10 @@ use Rattle.book.proofs.Changing.{AllAbsent, all-absent, refused, not-refused, me
 use Rattle.book.proofs.Pairing.{both-known, unpair-done}
 use Rattle.book.proofs.Book.unpair.Goals as goal
 
-pub returns-in-err-check-unpair : goal.returns-in-err-check-unpair
+pub returns-in_err-check_unpair : goal.returns-in_err-check_unpair
 unfolding checks
-returns-in-err-check-unpair g c = record {
-  applied = refused g.S.Store.room (g.S.Map.meaning c.args.self.now.store) (order_of c.args.self.now.ranks) (Unpair c.args.a c.args.b) c.from-residual.result _ c.in-err-check-unpair.ensures c.from-residual.ensures.1;
+returns-in_err-check_unpair g c = record {
+  applied = refused g.S.Store.room (g.S.Map.meaning c.args.self.now.store) (order_of c.args.self.now.ranks) (Unpair c.args.a c.args.b) c.from-residual.result _ c.in_err-check_unpair.ensures c.from-residual.ensures.1;
   whole = c.requires;
   kept = λ cause e. refl;
 }
@@ -21,7 +21,7 @@ pub touched-requires : goal.touched-requires
 touched-requires g c =
     let m = g.S.Map.meaning c.args.self.now.store in
     let order = order_of c.args.self.now.ranks in
-    let passed = no-cause _ (tt {0}) c.in-ok-check-unpair.ensures in
+    let passed = no-cause _ (tt {0}) c.in_ok-check_unpair.ensures in
     record { whole = c.requires; stand = both-known order c.args.a c.args.b (all-absent (unpair_checks (plain_by m order) c.args.a c.args.b) passed).0 }
 
 pub returns : goal.returns
@@ -29,10 +29,10 @@ returns g c =
     let m = g.S.Map.meaning c.args.self.now.store in
     let order = order_of c.args.self.now.ranks in
     let k = keeps m order c.args.self.now.labels c.requires in
-    let passed = no-cause _ (tt {0}) c.in-ok-check-unpair.ensures in
-    let left = c.in-ok-part.ensures.1 in
+    let passed = no-cause _ (tt {0}) c.in_ok-check_unpair.ensures in
+    let left = c.in_ok-part.ensures.1 in
     let done = unpair-done g.S.Store.room m order c.args.self.now.labels k c.args.a c.args.b passed c.touched.result.0 c.touched.result.1 c.touched.ensures.ups c.touched.ensures.downs
-    c.mend-labels.new.self.labels c.mend-labels.result (g.S.Map.meaning c.mend-labels.new.self.store) (order_of c.mend-labels.new.self.ranks)
-    (mended-at _ (without_pair c.args.a c.args.b m) _ order _ _ _ _ _ left refl c.mend-labels.ensures.mended)
-    (ap g.S.Map.meaning c.mend-labels.ensures.store ∙ left) (ap order_of c.mend-labels.ensures.ranks) in
-    record { applied = done.0; whole = done.1; kept = λ cause e. not-refused c.mend-labels.result cause e }
+    c.mend_labels.new.self.labels c.mend_labels.result (g.S.Map.meaning c.mend_labels.new.self.store) (order_of c.mend_labels.new.self.ranks)
+    (mended-at _ (without_pair c.args.a c.args.b m) _ order _ _ _ _ _ left refl c.mend_labels.ensures.mended)
+    (ap g.S.Map.meaning c.mend_labels.ensures.store ∙ left) (ap order_of c.mend_labels.ensures.ranks) in
+    record { applied = done.0; whole = done.1; kept = λ cause e. not-refused c.mend_labels.result cause e }

@@ -8,6 +8,6 @@ pub invariant-of-self : goal.invariant-of-self
 invariant-of-self c =
     let g = c.args.self.now in
     let within : g.count ≤ 8000 = g.within in (
-      join-counted (grid_map g) (matrix_map c.add-pair.new.self) g.count g.counted c.args.a c.args.b (omega arith) (omega arith) c.add-pair.ensures (sym c.if-paired.ensures),
+      join-counted (grid_map g) (matrix_map c.add_pair.new.self) g.count g.counted c.args.a c.args.b (omega arith) (omega arith) c.add_pair.ensures (sym c.if-paired.ensures),
       (omega arith, tt),
     )

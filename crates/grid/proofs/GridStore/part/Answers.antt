@@ -5,13 +5,13 @@ use Rattle.grid.specs.Held.{grid_map}
 use Rattle.grid.proofs.Counted.{part-counted}
 use Rattle.grid.proofs.GridStore.part.Goals as goal
 
-one_less : (c : goal.After-remove-pair) → pair_count (matrix_map c.remove-pair.new.self) + 1 ≡ c.args.self.now.count
+one_less : (c : goal.After-remove_pair) → pair_count (matrix_map c.remove_pair.new.self) + 1 ≡ c.args.self.now.count
 one_less c =
     let g = c.args.self.now in
-    part-counted (grid_map g) (matrix_map c.remove-pair.new.self) g.count g.counted c.args.a c.args.b (omega arith) (omega arith) c.remove-pair.ensures (sym c.if-not-paired.ensures)
+    part-counted (grid_map g) (matrix_map c.remove_pair.new.self) g.count g.counted c.args.a c.args.b (omega arith) (omega arith) c.remove_pair.ensures (sym c.if-not-paired.ensures)
 
-pub overflow-sub-self : goal.overflow-sub-self
-overflow-sub-self c = omega (arith, one_less c)
+pub overflow_sub-self : goal.overflow_sub-self
+overflow_sub-self c = omega (arith, one_less c)
 
 pub invariant-of-self : goal.invariant-of-self
 invariant-of-self c =

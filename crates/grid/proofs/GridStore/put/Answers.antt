@@ -6,4 +6,4 @@ use Rattle.grid.proofs.GridStore.put.Goals as goal
 pub invariant-of-self : goal.invariant-of-self
 invariant-of-self c =
     let g = c.args.self.now in
-    (put-counted (grid_map g) (matrix_map c.add-unit.new.self) g.count g.counted c.args.u c.add-unit.ensures, (g.within, tt))
+    (put-counted (grid_map g) (matrix_map c.add_unit.new.self) g.count g.counted c.args.u c.add_unit.ensures, (g.within, tt))

@@ -6,14 +6,14 @@ use Rattle.grid.specs.Held.{grid_map}
 use Rattle.grid.proofs.Counted.{take_counted}
 use Rattle.grid.proofs.GridStore.take.Goals as goal
 
-gone : (c : goal.After-remove-unit) → pair_count (matrix_map c.remove-unit.new.self) + (count (has c.listeners.result) + count (has c.sources.result)) ≡ c.args.self.now.count
+gone : (c : goal.After-remove_unit) → pair_count (matrix_map c.remove_unit.new.self) + (count (has c.listeners.result) + count (has c.sources.result)) ≡ c.args.self.now.count
 gone c =
     let g = c.args.self.now in
-    take_counted (grid_map g) (matrix_map c.remove-unit.new.self) g.count g.counted c.args.u (omega arith) c.remove-unit.ensures (g.matrix.apart c.args.u)
+    take_counted (grid_map g) (matrix_map c.remove_unit.new.self) g.count g.counted c.args.u (omega arith) c.remove_unit.ensures (g.matrix.apart c.args.u)
     (has c.listeners.result) (has c.sources.result) c.listeners.ensures c.sources.ensures
 
-pub overflow-sub-self : goal.overflow-sub-self
-overflow-sub-self c = let all = gone c in omega arith
+pub overflow_sub-self : goal.overflow_sub-self
+overflow_sub-self c = let all = gone c in omega arith
 
 pub invariant-of-self : goal.invariant-of-self
 invariant-of-self c =

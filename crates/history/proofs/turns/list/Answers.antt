@@ -24,11 +24,11 @@ list_left wanted.InHolders p unit room = refl
 list_left wanted.OutHolders p unit room = refl
 
 pub written-requires : goal.written-requires
-written-requires g c = list-fits g.S.Store.room (plain_of g.S.Map.meaning c.args.book.now) _ _ _ _ _ c.write-list-told.ensures
+written-requires g c = list-fits g.S.Store.room (plain_of g.S.Map.meaning c.args.book.now) _ _ _ _ _ c.write_list-told.ensures
 
 pub returns : goal.returns
 returns g c =
     let p = plain_of g.S.Map.meaning c.args.book.now in
     IfOk-weaker c.written.result _ _
-    (λ a is. list-turned g.S.Store.room p _ _ _ _ _ c.write-list-told.ensures a is (list-told c.args.list p c.args.unit _) (list_left c.args.list p c.args.unit _))
+    (λ a is. list-turned g.S.Store.room p _ _ _ _ _ c.write_list-told.ensures a is (list-told c.args.list p c.args.unit _) (list_left c.args.list p c.args.unit _))
     c.written.ensures

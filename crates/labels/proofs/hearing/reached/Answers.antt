@@ -15,7 +15,7 @@ returns c =
     let outs = c.args.outs.now in
     let order = c.args.order.now in
     let u = c.args.u in
-    let all : (v : ℕ) → has c.union.result v ≡ (covered (holds ins) (holds outs) order u v || (eqb v u || holds ins u v)) = λ v. both _ _ _ (covered (holds ins) (holds outs) order u v) (eqb v u || holds ins u v) (c.union.ensures v) (c.cover.ensures v) (c.with-own.ensures v) in
+    let all : (v : ℕ) → has c.union.result v ≡ (covered (holds ins) (holds outs) order u v || (eqb v u || holds ins u v)) = λ v. both _ _ _ (covered (holds ins) (holds outs) order u v) (eqb v u || holds ins u v) (c.union.ensures v) (c.cover.ensures v) (c.with_own.ensures v) in
     record {
       own = λ m kept unit v. all v ∙ all-hearers m order (record { ins = ins; outs = outs }) kept u v unit;
       swapped = λ m kept unit v. all v ∙ all-heard m order (record { ins = outs; outs = ins }) kept u v unit;

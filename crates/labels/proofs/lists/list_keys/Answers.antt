@@ -8,5 +8,5 @@ use Rattle.labels.proofs.lists.list_keys.Goals as goal
 
 pub returns : goal.returns
 returns c =
-    subst (λ (xs : List ℕ). Listed xs c.args.buffer.now c.list-members.result c.list-members.new.buffer)
-    (picked-keys (λ u. holds c.args.table.now u c.args.v) (has c.keys.result) c.args.order.now c.keys.ensures) c.list-members.ensures
+    subst (λ (xs : List ℕ). Listed xs c.args.buffer.now c.list_members.result c.list_members.new.buffer)
+    (picked-keys (λ u. holds c.args.table.now u c.args.v) (has c.keys.result) c.args.order.now c.keys.ensures) c.list_members.ensures

@@ -4,9 +4,9 @@ use Rattle.grammar.specs.Reading.{name_run}
 use Rattle.lines.proofs.Cuts.{no_field, a-field}
 use Rattle.lines.proofs.Rest.name.Goals as goal
 
-pub returns-in-default-leading-name : goal.returns-in-default-leading-name
-returns-in-default-leading-name c = record {
-  is = no_field (name_run 16) (λ name. name) c.args.self.bytes.now c.args.self.place (search rules) c.fault-in-default-leading-name.result.place c.fault-in-default-leading-name.ensures c.in-default-leading-name.ensures.is;
+pub returns-in_default-leading_name : goal.returns-in_default-leading_name
+returns-in_default-leading_name c = record {
+  is = no_field (name_run 16) (λ name. name) c.args.self.bytes.now c.args.self.place (search rules) c.fault-in_default-leading_name.result.place c.fault-in_default-leading_name.ensures c.in_default-leading_name.ensures.is;
   near = tt;
 }
 

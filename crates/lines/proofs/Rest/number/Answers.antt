@@ -3,9 +3,9 @@ use Rattle.grammar.specs.Reading.{number_run, value_after}
 use Rattle.lines.proofs.Cuts.{no_field, a-field}
 use Rattle.lines.proofs.Rest.number.Goals as goal
 
-pub returns-in-default-leading-number : goal.returns-in-default-leading-number
-returns-in-default-leading-number c = record {
-  is = no_field number_run (value_after 0) c.args.self.bytes.now c.args.self.place (search rules) c.fault-in-default-leading-number.result.place c.fault-in-default-leading-number.ensures c.in-default-leading-number.ensures.is;
+pub returns-in_default-leading_number : goal.returns-in_default-leading_number
+returns-in_default-leading_number c = record {
+  is = no_field number_run (value_after 0) c.args.self.bytes.now c.args.self.place (search rules) c.fault-in_default-leading_number.result.place c.fault-in_default-leading_number.ensures c.in_default-leading_number.ensures.is;
   near = tt;
 }
 

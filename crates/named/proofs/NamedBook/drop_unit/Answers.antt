@@ -6,28 +6,28 @@ use Rattle.plain_named.proofs.Obeying.{one-asked, one-refused, name-exit, card-e
 use Rattle.named.specs.Views.{named_of}
 use Rattle.named.proofs.NamedBook.drop_unit.Goals as goal
 
-pub returns-in-err-unit : goal.returns-in-err-unit
+pub returns-in_err-unit : goal.returns-in_err-unit
 unfolding asked
-returns-in-err-unit g c =
+returns-in_err-unit g c =
     let n = named_of g.S.Map.meaning c.args.self.now in
     record {
-      obeyed = name-exit g.S.Store.room n (said.Drop c.args.name.now) c.from-residual.result _ (one-refused n.names Drop c.args.name.now _ c.in-err-unit.ensures) c.from-residual.ensures.1;
+      obeyed = name-exit g.S.Store.room n (said.Drop c.args.name.now) c.from-residual.result _ (one-refused n.names Drop c.args.name.now _ c.in_err-unit.ensures) c.from-residual.ensures.1;
       whole = c.requires.agreed.0;
       kept = λ cause e. refl;
     }
 
-pub returns-in-err-labels : goal.returns-in-err-labels
+pub returns-in_err-labels : goal.returns-in_err-labels
 unfolding asked
-returns-in-err-labels g c =
+returns-in_err-labels g c =
     let n = named_of g.S.Map.meaning c.args.self.now in
     let s = said.Drop c.args.name.now in
-    let asks : asked n.names s ≡ _ = one-asked n.names Drop c.args.name.now c.in-ok-unit.unit c.in-ok-unit.ensures in
-    let same = c.in-err-labels.ensures.kept _ refl in
+    let asks : asked n.names s ≡ _ = one-asked n.names Drop c.args.name.now c.in_ok-unit.unit c.in_ok-unit.ensures in
+    let same = c.in_err-labels.ensures.kept _ refl in
     record {
       obeyed =
-          subst (λ b. Obeyed g.S.Store.room n s c.from-residual-in-err-labels.result (named_of g.S.Map.meaning (record { book = b; cards = c.args.self.now.cards }))) (sym same)
-          (card-exit g.S.Store.room n s (Drop c.in-ok-unit.unit) asks c.from-residual-in-err-labels.result _ _ c.in-err-labels.ensures.applied c.from-residual-in-err-labels.ensures.1);
-      whole = c.in-err-labels.ensures.whole;
+          subst (λ b. Obeyed g.S.Store.room n s c.from-residual-in_err-labels.result (named_of g.S.Map.meaning (record { book = b; cards = c.args.self.now.cards }))) (sym same)
+          (card-exit g.S.Store.room n s (Drop c.in_ok-unit.unit) asks c.from-residual-in_err-labels.result _ _ c.in_err-labels.ensures.applied c.from-residual-in_err-labels.ensures.1);
+      whole = c.in_err-labels.ensures.whole;
       kept = λ cause e. ap (λ b. record { book = b; cards = c.args.self.now.cards }) same;
     }
 
@@ -36,9 +36,9 @@ unfolding asked
 returns g c =
     let n = named_of g.S.Map.meaning c.args.self.now in
     let s = said.Drop c.args.name.now in
-    let asks : asked n.names s ≡ _ = one-asked n.names Drop c.args.name.now c.in-ok-unit.unit c.in-ok-unit.ensures in
+    let asks : asked n.names s ≡ _ = one-asked n.names Drop c.args.name.now c.in_ok-unit.unit c.in_ok-unit.ensures in
     record {
-      obeyed = card-written g.S.Store.room n s (Drop c.in-ok-unit.unit) asks c.in-ok-labels.labels _ _ c.in-ok-labels.ensures.applied refl c.wipe.ensures;
-      whole = c.in-ok-labels.ensures.whole;
+      obeyed = card-written g.S.Store.room n s (Drop c.in_ok-unit.unit) asks c.in_ok-labels.labels _ _ c.in_ok-labels.ensures.applied refl c.wipe.ensures;
+      whole = c.in_ok-labels.ensures.whole;
       kept = λ cause e. not-refused _ cause e;
     }

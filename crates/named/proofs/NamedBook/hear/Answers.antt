@@ -6,17 +6,17 @@ use Rattle.plain_named.proofs.Obeying.{two-asked, two-refused, name-exit, book-a
 use Rattle.named.specs.Views.{named_of}
 use Rattle.named.proofs.NamedBook.hear.Goals as goal
 
-pub returns-in-err-a : goal.returns-in-err-a
+pub returns-in_err-a : goal.returns-in_err-a
 unfolding asked
-returns-in-err-a g c =
+returns-in_err-a g c =
     let n = named_of g.S.Map.meaning c.args.self.now in
-    name-exit g.S.Store.room n (said.Hear c.args.source.now c.args.listener.now) c.from-residual.result _ (two-refused n.names Hear c.args.source.now c.args.listener.now _ c.in-err-a.ensures) c.from-residual.ensures.1
+    name-exit g.S.Store.room n (said.Hear c.args.source.now c.args.listener.now) c.from-residual.result _ (two-refused n.names Hear c.args.source.now c.args.listener.now _ c.in_err-a.ensures) c.from-residual.ensures.1
 
 pub returns : goal.returns
 unfolding asked granted
 returns g c =
     let n = named_of g.S.Map.meaning c.args.self.now in
     let s = said.Hear c.args.source.now c.args.listener.now in
-    let a = Hear c.in-ok-a.a c.in-ok-a.b in
-    let asks : asked n.names s ≡ _ = two-asked n.names Hear c.args.source.now c.args.listener.now c.in-ok-a.a c.in-ok-a.b c.in-ok-a.ensures in
+    let a = Hear c.in_ok-a.a c.in_ok-a.b in
+    let asks : asked n.names s ≡ _ = two-asked n.names Hear c.args.source.now c.args.listener.now c.in_ok-a.a c.in_ok-a.b c.in_ok-a.ensures in
     book-asked g.S.Store.room n s a asks c.hear.result _ c.hear.ensures.told refl refl refl _ c.heard.ensures

@@ -6,12 +6,12 @@ use Rattle.plain_named.proofs.Obeying.{two-asked, two-refused, name-exit, book-c
 use Rattle.named.specs.Views.{named_of}
 use Rattle.named.proofs.NamedBook.unpair.Goals as goal
 
-pub returns-in-err-a : goal.returns-in-err-a
+pub returns-in_err-a : goal.returns-in_err-a
 unfolding asked
-returns-in-err-a g c =
+returns-in_err-a g c =
     let n = named_of g.S.Map.meaning c.args.self.now in
     record {
-      obeyed = name-exit g.S.Store.room n (said.Unpair c.args.source.now c.args.listener.now) c.from-residual.result _ (two-refused n.names Unpair c.args.source.now c.args.listener.now _ c.in-err-a.ensures) c.from-residual.ensures.1;
+      obeyed = name-exit g.S.Store.room n (said.Unpair c.args.source.now c.args.listener.now) c.from-residual.result _ (two-refused n.names Unpair c.args.source.now c.args.listener.now _ c.in_err-a.ensures) c.from-residual.ensures.1;
       whole = c.requires.agreed.0;
       kept = λ cause e. refl;
     }
@@ -21,8 +21,8 @@ unfolding asked
 returns g c =
     let n = named_of g.S.Map.meaning c.args.self.now in
     let s = said.Unpair c.args.source.now c.args.listener.now in
-    let a = Unpair c.in-ok-a.a c.in-ok-a.b in
-    let asks : asked n.names s ≡ _ = two-asked n.names Unpair c.args.source.now c.args.listener.now c.in-ok-a.a c.in-ok-a.b c.in-ok-a.ensures in
+    let a = Unpair c.in_ok-a.a c.in_ok-a.b in
+    let asks : asked n.names s ≡ _ = two-asked n.names Unpair c.args.source.now c.args.listener.now c.in_ok-a.a c.in_ok-a.b c.in_ok-a.ensures in
     record {
       obeyed = book-changed g.S.Store.room n s a asks c.unpair.result _ c.unpair.ensures.applied refl refl _ c.changed.ensures;
       whole = c.unpair.ensures.whole;

@@ -7,16 +7,16 @@ use Rattle.names.proofs.Cards.find.Goals as goal
 pub loop-u-init : goal.loop-u-init
 loop-u-init c = from_first _ _
 
-pub returns-then-has-at : goal.returns-then-has-at
-returns-then-has-at c =
-    let t = sym c.if-has-at.ensures in
+pub returns-then-has_at : goal.returns-then-has_at
+returns-then-has_at c =
+    let t = sym c.if-has_at.ensures in
     record {
       is = sym (from-here (names_of c.args.self.now) c.args.name.now c.loop-u.u (omega arith) t) ∙ c.loop-u.invariant;
       holder = is-name-true _ _ t;
     }
 
 pub loop-u-preserved : goal.loop-u-preserved
-loop-u-preserved c = sym (from_next (names_of c.args.self.now) c.args.name.now c.loop-u.u (omega arith) (sym c.if-has-at.ensures)) ∙ c.loop-u.invariant
+loop-u-preserved c = sym (from_next (names_of c.args.self.now) c.args.name.now c.loop-u.u (omega arith) (sym c.if-has_at.ensures)) ∙ c.loop-u.invariant
 
 pub returns : goal.returns
 returns c =

@@ -6,7 +6,7 @@ use Rattle.page.proofs.reading.all_seen.Goals as goal
 
 pub returns-then-not-seen-r : goal.returns-then-not-seen-r
 returns-then-not-seen-r c =
-    every-broken (λ k. get_or c.args.seen.now k false) 1 (record_count c.args.page.now) c.loop-r.r c.loop-r.auto.r (omega (arith, c.word-at-r-end.ensures)) c.if-not-seen-r.true
+    every-broken (λ k. get_or c.args.seen.now k false) 1 (record_count c.args.page.now) c.loop-r.r c.loop-r.auto.r (omega (arith, c.word_at-r-end.ensures)) c.if-not-seen-r.true
 
 pub loop-r-preserved : goal.loop-r-preserved
 loop-r-preserved c =

@@ -10,7 +10,7 @@ use Rattle.page_laws.proofs.Rows.{paired-more, paired-all, followed-none, follow
 use Rattle.page.proofs.reading.read_rows.Goals as goal
 
 pub loop-i-init : goal.loop-i-init
-loop-i-init c = (followed-none c.args.page.now c.none-seen-seen.result c.none-seen-seen.ensures, c.empty-rows-rows.ensures)
+loop-i-init c = (followed-none c.args.page.now c.none_seen-seen.result c.none_seen-seen.ensures, c.empty_rows-rows.ensures)
 
 pub loop-i-preserved : goal.loop-i-preserved
 loop-i-preserved c =
@@ -19,7 +19,7 @@ loop-i-preserved c =
     let got = c.in-Some.ensures in
     let once = subst Once c.requires.units c.lawful.ensures.once in (
       got.0,
-      λ a b. c.write-row.ensures a b ∙ ap (λ (u : ℕ). cond (eqb a u) (has c.in-Some.row b) (in_row c.loop-i.rows a b)) c.unit-of.ensures
+      λ a b. c.write_row.ensures a b ∙ ap (λ (u : ℕ). cond (eqb a u) (has c.in-Some.row b) (in_row c.loop-i.rows a b)) c.unit_of.ensures
           ∙ both _ _ _ _ (got.1 b) (c.loop-i.invariant.1 a b) (eqb a (unit_in page i)) ∙ sym (paired-more page i c.loop-i-test.true once a b),
     )
   where
@@ -30,9 +30,9 @@ loop-i-preserved c =
 last : (page : List ℕ) (seen : List Bool) (i : ℕ) → i ≤ unit_count page → unit_count page ≤ i → Followed page i seen → Followed page (unit_count page) seen
 last page seen i a b f = let e : i ≡ unit_count page = omega arith in subst (λ (n : ℕ). Followed page n seen) e f
 
-pub returns-then-not-all-seen : goal.returns-then-not-all-seen
-returns-then-not-all-seen c =
-    not-reached c.args.page.now c.loop-i.seen (last c.args.page.now c.loop-i.seen c.loop-i.i c.loop-i.auto.i-end c.loop-i-test.false c.loop-i.invariant.0) (sym c.if-not-all-seen.ensures)
+pub returns-then-not-all_seen : goal.returns-then-not-all_seen
+returns-then-not-all_seen c =
+    not-reached c.args.page.now c.loop-i.seen (last c.args.page.now c.loop-i.seen c.loop-i.i c.loop-i.auto.i-end c.loop-i-test.false c.loop-i.invariant.0) (sym c.if-not-all_seen.ensures)
 
 pub returns : goal.returns
 returns c =
@@ -40,6 +40,6 @@ returns c =
     let low = λ (u : ℕ) (o : On u (page_units page)). c.lawful.ensures.low u (subst (On u) (sym c.requires.units) o) in
     let here : c.loop-i.i ≡ unit_count page = let a = c.loop-i.auto.i-end in let b = c.loop-i-test.false in omega arith in (
       followed-all page c.loop-i.seen c.requires.form low (subst Once c.requires.units c.lawful.ensures.once)
-          (last page c.loop-i.seen c.loop-i.i c.loop-i.auto.i-end c.loop-i-test.false c.loop-i.invariant.0) (sym c.if-not-all-seen.ensures),
+          (last page c.loop-i.seen c.loop-i.i c.loop-i.auto.i-end c.loop-i-test.false c.loop-i.invariant.0) (sym c.if-not-all_seen.ensures),
       λ a b. c.loop-i.invariant.1 a b ∙ ap (λ (n : ℕ). paired_by page n a b) here ∙ sym (paired-all page a b),
     )

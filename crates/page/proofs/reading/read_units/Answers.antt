@@ -14,9 +14,9 @@ returns-then-u-eq0 c =
     let page = c.args.page.now in
     let i = c.loop-i.i in
     elim c.then-u-eq0.branch [
-      | then-u-eq0-via-then-u-eq0 w ↦ unit-zero page i c.loop-i-test.true (sym c.unit-of-u.ensures ∙ w.if-u-eq0.true)
+      | then-u-eq0-via-then-u-eq0 w ↦ unit-zero page i c.loop-i-test.true (sym c.unit_of-u.ensures ∙ w.if-u-eq0.true)
       | then-u-eq0-via-else-u-eq0+then-holds w ↦ unit-listed page i c.loop-i-test.true
-          (ap (λ (u : ℕ). listed u (front page i)) (sym c.unit-of-u.ensures) ∙ ap (listed c.unit-of-u.result) (sym c.loop-i.invariant) ∙ sym w.holds.ensures ∙ w.if-holds.true)
+          (ap (λ (u : ℕ). listed u (front page i)) (sym c.unit_of-u.ensures) ∙ ap (listed c.unit_of-u.result) (sym c.loop-i.invariant) ∙ sym w.holds.ensures ∙ w.if-holds.true)
     ]
 
 pub loop-i-preserved : goal.loop-i-preserved
@@ -24,8 +24,8 @@ loop-i-preserved c =
     let page = c.args.page.now in
     let i = c.loop-i.i in
     let order = order_of c.loop-i.ranks in
-    c.insert.ensures ∙ ap (λ k. inserted k c.unit-of-u.result order) c.len.ensures ∙ inserted-last c.unit-of-u.result order
-    ∙ ap (λ (xs : List ℕ). xs ++ c.unit-of-u.result ∷ []) c.loop-i.invariant ∙ ap (λ (u : ℕ). front page i ++ u ∷ []) c.unit-of-u.ensures ∙ sym (units-grown page i)
+    c.insert.ensures ∙ ap (λ k. inserted k c.unit_of-u.result order) c.len.ensures ∙ inserted-last c.unit_of-u.result order
+    ∙ ap (λ (xs : List ℕ). xs ++ c.unit_of-u.result ∷ []) c.loop-i.invariant ∙ ap (λ (u : ℕ). front page i ++ u ∷ []) c.unit_of-u.ensures ∙ sym (units-grown page i)
 
 pub returns : goal.returns
 returns c =

@@ -20,4 +20,4 @@ module _ (m : Map) (sound : Sound m) (c b : ℕ) (between : (k : ℕ) → c + 1 
 
 pub loop-b-preserved : goal.loop-b-preserved
 loop-b-preserved g c =
-    further (g.M.Map.meaning c.args.m.now) c.sound.ensures c.loop-b.c c.in-Some.b c.in-Some.ensures.2 c.loop-b.invariant c.if-closes-ring.ensures
+    further (g.M.Map.meaning c.args.m.now) c.sound.ensures c.loop-b.c c.in-Some.b c.in-Some.ensures.2 c.loop-b.invariant c.if-closes_ring.ensures

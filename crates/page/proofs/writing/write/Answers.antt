@@ -10,28 +10,28 @@ use Rattle.plain.specs.Saving.{ascending, head_bytes, unit_bytes, pairing_bytes,
 use Rattle.page_laws.proofs.Sums.{listeners-sum, order-few}
 use Rattle.page.proofs.writing.write.Goals as goal
 
-pub overflow-cast-order : goal.overflow-cast-order
-overflow-cast-order g c =
+pub overflow_cast-order : goal.overflow_cast-order
+overflow_cast-order g c =
     let few = order-few (g.M.Map.meaning c.args.map.now) c.sound.ensures c.args.order.now c.requires.orders in
     omega arith
 
-pub write-units-requires : goal.write-units-requires
-write-units-requires g c =
+pub write_units-requires : goal.write_units-requires
+write_units-requires g c =
     let all = listeners-sum (g.M.Map.meaning c.args.map.now) c.sound.ensures c.args.order.now c.requires.orders in
     let number = c.requires.number in
     let few = c.requires.few in
     let long = c.requires.long in
-    let same = c.write-head.auto.page in
+    let same = c.write_head.auto.page in
     record { room = omega arith; few = omega arith }
 
-pub write-pairings-requires : goal.write-pairings-requires
-write-pairings-requires g c =
+pub write_pairings-requires : goal.write_pairings-requires
+write_pairings-requires g c =
     let all = listeners-sum (g.M.Map.meaning c.args.map.now) c.sound.ensures c.args.order.now c.requires.orders in
     let number = c.requires.number in
     let few = c.requires.few in
     let long = c.requires.long in
-    let same = c.write-head.auto.page in
-    let again = c.write-units.auto.page in
+    let same = c.write_head.auto.page in
+    let again = c.write_units.auto.page in
     record { room = omega arith; few = omega arith }
 
 pub returns : goal.returns
@@ -42,12 +42,12 @@ returns g c =
     let all = listeners-sum m c.sound.ensures order c.requires.orders in
     let number = c.requires.number in
     let long = c.requires.long in
-    let k1 = c.write-head.auto.page in
-    let k2 = c.write-units.auto.page in
-    let k3 = c.write-pairings.auto.page in
+    let k1 = c.write_head.auto.page in
+    let k2 = c.write_units.auto.page in
+    let k3 = c.write_pairings.auto.page in
     let units = unit_bytes m.pair 1 order in
     let pairs = pairing_bytes m.pair 1 order in
     let many : pair_count m ≡ pair_count (map_of (plain_by m order)) = pair-count-same m (map_of (plain_by m order)) (λ x y. refl) in
-    sym (take_all (4 + 3 * length order + 3 * sum order (λ u. length (ascending (m.pair u)))) c.write-pairings.new.page (omega arith))
-    ∙ c.write-pairings.ensures ∙ ap (λ (xs : List ℕ). xs ++ pairs) (c.write-units.ensures ∙ ap (λ (xs : List ℕ). xs ++ units) c.write-head.ensures)
+    sym (take_all (4 + 3 * length order + 3 * sum order (λ u. length (ascending (m.pair u)))) c.write_pairings.new.page (omega arith))
+    ∙ c.write_pairings.ensures ∙ ap (λ (xs : List ℕ). xs ++ pairs) (c.write_units.ensures ∙ ap (λ (xs : List ℕ). xs ++ units) c.write_head.ensures)
     ∙ ap (λ (n : ℕ). (head_bytes (length order) n ++ units) ++ pairs) (number ∙ many) ∙ append_assoc (head_bytes (length order) (pair_count (map_of (plain_by m order)))) units pairs

@@ -9,8 +9,8 @@ use Rattle.page_laws.proofs.Sums.{length-ascending}
 use Rattle.page_laws.proofs.Writing.{written, pairing-next, sum-next, sum-end, all-written, same-ascending}
 use Rattle.page.proofs.writing.write_pairings.Goals as goal
 
-pub write-chain-requires : goal.write-chain-requires
-write-chain-requires g c =
+pub write_chain-requires : goal.write_chain-requires
+write_chain-requires g c =
     let m = g.M.Map.meaning c.args.map.now in
     let order = c.args.order.now in
     let i = c.loop-u.u-index in
@@ -36,10 +36,10 @@ loop-u-preserved g c =
     let again = c.len-at.ensures.number ∙ count_same _ (m.pair u) c.listeners-listeners.ensures ∙ sym (length-ascending (m.pair u) (zero-not-listening m c.sound.ensures u)) in
     let inv = c.loop-u.invariant in
     let place : c.loop-u.to + 3 * c.len.result ≡ c.loop-u.to + 3 * length (ascending (has c.listeners-listeners.result)) = omega arith in (
-      ap (λ (n : ℕ). take (c.loop-u.to + 3 * c.len.result) c.write-chain.new.page ++ pairing_bytes m.pair (c.loop-u.at + n) (drop (i + 1) order)) again
-          ∙ written (take c.loop-u.to c.loop-u.page) (take (c.loop-u.to + 3 * c.len.result) c.write-chain.new.page) (chain_bytes c.loop-u.at (ascending (m.pair u))) (pairing_bytes m.pair (c.loop-u.at + length (ascending (m.pair u))) (drop (i + 1) order)) _
+      ap (λ (n : ℕ). take (c.loop-u.to + 3 * c.len.result) c.write_chain.new.page ++ pairing_bytes m.pair (c.loop-u.at + n) (drop (i + 1) order)) again
+          ∙ written (take c.loop-u.to c.loop-u.page) (take (c.loop-u.to + 3 * c.len.result) c.write_chain.new.page) (chain_bytes c.loop-u.at (ascending (m.pair u))) (pairing_bytes m.pair (c.loop-u.at + length (ascending (m.pair u))) (drop (i + 1) order)) _
           (ap (λ (xs : List ℕ). take c.loop-u.to c.loop-u.page ++ xs) (sym (pairing-next m.pair order i h c.loop-u.at)) ∙ inv.0)
-          (ap (λ (n : ℕ). take n c.write-chain.new.page) place ∙ c.write-chain.ensures ∙ ap (λ (xs : List ℕ). take c.loop-u.to c.loop-u.page ++ chain_bytes c.loop-u.at xs) list),
+          (ap (λ (n : ℕ). take n c.write_chain.new.page) place ∙ c.write_chain.ensures ∙ ap (λ (xs : List ℕ). take c.loop-u.to c.loop-u.page ++ chain_bytes c.loop-u.at xs) list),
       omega arith,
       omega arith,
     )

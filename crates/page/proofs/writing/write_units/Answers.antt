@@ -19,14 +19,14 @@ loop-i-preserved g c =
     let many : c.len-count.result ≡ length (ascending (m.pair u)) =
     c.len-count.ensures.number ∙ count_same _ (m.pair u) c.listeners.ensures ∙ sym (length-ascending (m.pair u) (zero-not-listening m c.sound.ensures u)) in
     let place : 4 + 3 * (i + 1) ≡ (4 + 3 * i) + 3 = omega arith in
-    let index : c.index-of.result ≡ next_index c.loop-i.at (ascending (m.pair u)) =
-    c.index-of.ensures ∙ ap (λ (n : ℕ). cond (eqb n 0) 0 c.loop-i.at) many ∙ sym (index-count c.loop-i.at (ascending (m.pair u))) in
+    let index : c.index_of.result ≡ next_index c.loop-i.at (ascending (m.pair u)) =
+    c.index_of.ensures ∙ ap (λ (n : ℕ). cond (eqb n 0) 0 c.loop-i.at) many ∙ sym (index-count c.loop-i.at (ascending (m.pair u))) in
     let left = sum-next (λ u. length (ascending (m.pair u))) order i h in
     let inv = c.loop-i.invariant.1 in (
-      ap (λ (n : ℕ). take (4 + 3 * (i + 1)) c.write-record.new.page ++ unit_bytes m.pair (c.loop-i.at + n) (drop (i + 1) order)) many
-          ∙ written (take (4 + 3 * i) c.loop-i.page) (take (4 + 3 * (i + 1)) c.write-record.new.page) (record_bytes u (next_index c.loop-i.at (ascending (m.pair u)))) (unit_bytes m.pair (c.loop-i.at + length (ascending (m.pair u))) (drop (i + 1) order)) _
+      ap (λ (n : ℕ). take (4 + 3 * (i + 1)) c.write_record.new.page ++ unit_bytes m.pair (c.loop-i.at + n) (drop (i + 1) order)) many
+          ∙ written (take (4 + 3 * i) c.loop-i.page) (take (4 + 3 * (i + 1)) c.write_record.new.page) (record_bytes u (next_index c.loop-i.at (ascending (m.pair u)))) (unit_bytes m.pair (c.loop-i.at + length (ascending (m.pair u))) (drop (i + 1) order)) _
           (ap (λ (xs : List ℕ). take (4 + 3 * i) c.loop-i.page ++ xs) (sym (unit-next m.pair order i h c.loop-i.at)) ∙ c.loop-i.invariant.0)
-          (ap (λ (n : ℕ). take n c.write-record.new.page) place ∙ c.write-record.ensures ∙ ap (λ (n : ℕ). take (4 + 3 * i) c.loop-i.page ++ record_bytes u n) index),
+          (ap (λ (n : ℕ). take n c.write_record.new.page) place ∙ c.write_record.ensures ∙ ap (λ (n : ℕ). take (4 + 3 * i) c.loop-i.page ++ record_bytes u n) index),
       omega arith,
     )
 

@@ -7,15 +7,15 @@ use Rattle.partners.proofs.joining.join_sources.Goals as goal
 pub loop-s-init : goal.loop-s-init
 loop-s-init g c = record { sound = c.sound.ensures; able = c.requires; done = refl }
 
-pub returns-in-err-join : goal.returns-in-err-join
-returns-in-err-join g c =
+pub returns-in_err-join : goal.returns-in_err-join
+returns-in_err-join g c =
     absurd (not-refused _ _
     (join-granted g.S.Store.room (λ s. s) (λ s. c.args.v) (λ u w e f. e) c.args.sources.now c.loop-s.s-index _ _ c.loop-s.invariant c.loop-s-test.true)
-    c.in-err-join.ensures.0)
+    c.in_err-join.ensures.0)
 
 pub loop-s-preserved : goal.loop-s-preserved
 loop-s-preserved g c =
-    join_more g.S.Store.room (λ s. s) (λ s. c.args.v) (λ u w e f. e) c.args.sources.now c.loop-s.s-index _ _ c.loop-s.invariant _ c.in-ok-join.ensures.1 c.loop-s-test.true
+    join_more g.S.Store.room (λ s. s) (λ s. c.args.v) (λ u w e f. e) c.args.sources.now c.loop-s.s-index _ _ c.loop-s.invariant _ c.in_ok-join.ensures.1 c.loop-s-test.true
 
 pub returns : goal.returns
 returns g c = record {

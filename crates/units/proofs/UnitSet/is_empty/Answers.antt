@@ -7,6 +7,6 @@ use Rattle.units.proofs.UnitSet.is_empty.Goals as goal
 pub returns : goal.returns
 returns c =
     let xs = c.args.self.now.words in
-    let e = c.joined-bits.ensures in
+    let e = c.joined_bits.ensures in
     let small : joined xs < 2 ^ 64 = omega arith in
     subst (λ (x : ℕ). Inhabited (not (eqb x 0)) (member xs)) (sym e) (inhabited xs small)

@@ -9,12 +9,12 @@ pub invariant-of-self : goal.invariant-of-self
 invariant-of-self c =
     let x = c.args.self.now in
     let u = c.args.u in
-    kept (without_unit u (matrix_map x)) c.remove.new.self c.remove-among.new.rows c.remove-among-2.new.rows
+    kept (without_unit u (matrix_map x)) c.remove.new.self c.remove_among.new.rows c.remove_among-2.new.rows
     (hidden-sound (λ k. eqb k u) (matrix_map x) (sound-of x)) c.remove.ensures
-    (listeners-left x u c.empty.result c.remove-among.new.rows c.empty.ensures (omega arith) c.remove-among.ensures)
-    (sources-left x u c.empty-2.result c.remove-among-2.new.rows c.empty-2.ensures (omega arith) c.remove-among-2.ensures)
+    (listeners-left x u c.empty.result c.remove_among.new.rows c.empty.ensures (omega arith) c.remove_among.ensures)
+    (sources-left x u c.empty-2.result c.remove_among-2.new.rows c.empty-2.ensures (omega arith) c.remove_among-2.ensures)
 
 pub returns : goal.returns
 returns c =
     same_map _ _ c.remove.ensures
-    (listeners-left c.args.self.now c.args.u c.empty.result c.remove-among.new.rows c.empty.ensures (omega arith) c.remove-among.ensures)
+    (listeners-left c.args.self.now c.args.u c.empty.result c.remove_among.new.rows c.empty.ensures (omega arith) c.remove_among.ensures)

@@ -7,10 +7,10 @@ use Rattle.ranks.specs.Orders.{order_of}
 use Rattle.ranks.proofs.Whole.{grown, front-new}
 use Rattle.ranks.proofs.table.Ranks.from_slice.Goals as goal
 
-pub returns-then-not-is-new : goal.returns-then-not-is-new
-returns-then-not-is-new c law =
+pub returns-then-not-is_new : goal.returns-then-not-is_new
+returns-then-not-is_new c law =
     let new = front-new c.args.units.now (order_of c.loop-u.ranks) c.loop-u.u-index c.loop-u-test.true c.loop-u.invariant law in
-    both_ways c.is-new.result c.if-not-is-new.true (c.is-new.ensures ∙ new)
+    both_ways c.is_new.result c.if-not-is_new.true (c.is_new.ensures ∙ new)
 
 pub loop-u-preserved : goal.loop-u-preserved
 loop-u-preserved c =

@@ -14,8 +14,8 @@ returns-then-rank-eq0 c =
     let u = c.args.u in
     sym (removed-none u (order_of r) (off-from-listed u (order_of r) (off-order r u c.if-rank-eq0.true)))
 
-pub take-out-requires : goal.take-out-requires
-take-out-requires c =
+pub take_out-requires : goal.take_out-requires
+take_out-requires c =
     let r = c.args.self.now in
     let h = rank-within r c.args.u c.if-rank-eq0.false in
     record { within = omega arith; once = order-once r }
@@ -25,12 +25,12 @@ renumber-requires c =
     let r = c.args.self.now in
     let u = c.args.u in
     let on = c.if-rank-eq0.false in
-    let new = c.take-out.new.order in
+    let new = c.take_out.new.order in
     let h = rank-within r u on in
     record {
       within = omega arith;
-      once = remove-once r u (take (r.n - 1) new) on c.take-out.ensures.all;
-      before = remove-before r u new on c.take-out.ensures.above;
+      once = remove-once r u (take (r.n - 1) new) on c.take_out.ensures.all;
+      before = remove-before r u new on c.take_out.ensures.above;
     }
 
 pub invariant-of-self : goal.invariant-of-self
@@ -38,16 +38,16 @@ invariant-of-self c =
     let r = c.args.self.now in
     let u = c.args.u in
     let on = c.if-rank-eq0.false in
-    let units = take (r.n - 1) c.take-out.new.order in
-    let all = c.take-out.ensures.all in
+    let units = take (r.n - 1) c.take_out.new.order in
+    let all = c.take_out.ensures.all in
     let kept = c.renumber.ensures.kept in
     let absent = remove_absent r u units on all (omega arith) in
     let far = remove-zero r u units on all in (
-      length-take-le (r.n - 1) c.take-out.new.order (omega arith),
+      length-take-le (r.n - 1) c.take_out.new.order (omega arith),
       (c.renumber.array_long, (kept 0 far ∙ absent 0 far, (c.renumber.ensures.numbered, (λ w out. kept w out ∙ absent w out, tt)))),
     )
 
 pub returns : goal.returns
 returns c =
     let r = c.args.self.now in
-    remove-is r c.args.u (take (r.n - 1) c.take-out.new.order) c.if-rank-eq0.false c.take-out.ensures.all
+    remove-is r c.args.u (take (r.n - 1) c.take_out.new.order) c.if-rank-eq0.false c.take_out.ensures.all
