@@ -28,7 +28,7 @@ def main():
     hyphened = sorted(((n.replace("_", "-"), n) for n in names), key=lambda p: -len(p[0]))
     table = dict(hyphened)
     pattern = re.compile(r"(?<![A-Za-z0-9_'])(" + "|".join(re.escape(h) for h, _ in hyphened) + r")(?![A-Za-z0-9_'])")
-    made = re.compile(r"\b(?:c|l|goal|given|need)\.[A-Za-z][\w'-]*|\bgoal\.(?:After|In|At)-[\w'-]+")
+    made = re.compile(r"\b(?:[a-z][\w'-]*\.)+[A-Za-z][\w'-]*|\bgoal\.(?:After|In|At)-[\w'-]+")
     for root, folders, files in os.walk("crates"):
         folders[:] = [d for d in folders if d != "out"]
         if len(sys.argv) > 1 and not any(("/" + c + "/") in root + "/" for c in sys.argv[1:]):

@@ -26,19 +26,23 @@ sound-of x = record {
     not-zero u t (inl e) = absurd (both_ways _ x.zero (ap (has x.units) (sym e) ∙ t))
     not-zero u t (inr n) = omega arith
 
-abbrev pub Kept : UnitSet → List UnitSet → List UnitSet → Type 0
-Kept units listeners sources = NoZero units × (FromStands units listeners × (ToStands units listeners × (Apart listeners × (TurnedRows listeners sources × Unit {0}))))
+pub record Kept (units : UnitSet) (listeners sources : List UnitSet) : Type 0 where
+  pub zero : NoZero units
+  pub from : FromStands units listeners
+  pub to : ToStands units listeners
+  pub apart : Apart listeners
+  pub turned : TurnedRows listeners sources
 
 -- ... and sets that tell a sound map make a matrix
 pub kept : (m : Map) (units : UnitSet) (listeners sources : List UnitSet) → Sound m → ((k : ℕ) → has units k ≡ m.unit k)
     → ((x y : ℕ) → in_row listeners x y ≡ m.pair x y) → ((x y : ℕ) → in_row sources y x ≡ m.pair x y) → Kept units listeners sources
-kept m units listeners sources s ku kp ks = (
-  ku 0 ∙ off (m.unit 0) (λ t. let low = s.low 0 t in omega arith),
-  (
-    λ x y t. ku x ∙ passed _ (s.from x y (pair x y t)),
-    (λ x y t. ku y ∙ passed _ (s.to x y (pair x y t)), (λ x. kp x x ∙ off (m.pair x x) (λ t. s.apart x x t refl), (λ x y. ks x y ∙ sym (kp x y), tt))),
-  ),
-)
+kept m units listeners sources s ku kp ks = record {
+  zero = ku 0 ∙ off (m.unit 0) (λ t. let low = s.low 0 t in omega arith);
+  from = λ x y t. ku x ∙ passed _ (s.from x y (pair x y t));
+  to = λ x y t. ku y ∙ passed _ (s.to x y (pair x y t));
+  apart = λ x. kp x x ∙ off (m.pair x x) (λ t. s.apart x x t refl);
+  turned = λ x y. ks x y ∙ sym (kp x y);
+}
   where
     off : (b : Bool) → (T b → ⊥) → b ≡ false
     off b h = elim (cases_Bool b) [ inl t ↦ absurd (h (passes b t)) | inr f ↦ f ]

@@ -17,35 +17,35 @@ pub returns-in-r : goal.returns-in-r
 unfolding read_by
 returns-in-r c = c.parse_rank.ensures ∙ ap (λ (l : ℕ). read_by l c.args.bytes.now) (sym c.in-r.is)
 
-pub returns-in_err-source : goal.returns-in_err-source
+pub returns-in_err-source-in-p : goal.returns-in_err-source-in-p
 unfolding read_by
-returns-in_err-source c =
-    let p = err_from_is_err_and c.from-residual.result c.from-residual.ensures.1 in
-    rw (p.1, p.2) (c.in_err-source.ensures Pair ∙ ap (λ (l : ℕ). read_by l c.args.bytes.now) (sym c.in-p.is))
+returns-in_err-source-in-p c =
+    let p = err_from_is_err_and c.from_residual.result c.from_residual.ensures.1 in
+    rw (p.1, p.2) (c.in_err-source-in-p.ensures Pair ∙ ap (λ (l : ℕ). read_by l c.args.bytes.now) (sym c.in-p.is))
 
-pub returns-in_ok-source : goal.returns-in_ok-source
+pub returns-in_ok-source-in-p : goal.returns-in_ok-source-in-p
 unfolding read_by
-returns-in_ok-source c = c.in_ok-source.ensures Pair ∙ ap (λ (l : ℕ). read_by l c.args.bytes.now) (sym c.in-p.is)
+returns-in_ok-source-in-p c = c.in_ok-source-in-p.ensures Pair ∙ ap (λ (l : ℕ). read_by l c.args.bytes.now) (sym c.in-p.is)
 
-pub returns-in_err-source-2 : goal.returns-in_err-source-2
+pub returns-in_err-source-in-a : goal.returns-in_err-source-in-a
 unfolding read_by
-returns-in_err-source-2 c =
-    let p = err_from_is_err_and c.from-residual-in_err-source-2.result c.from-residual-in_err-source-2.ensures.1 in
-    rw (p.1, p.2) (c.in_err-source-2.ensures Unpair ∙ ap (λ (l : ℕ). read_by l c.args.bytes.now) (sym c.in-a.is))
+returns-in_err-source-in-a c =
+    let p = err_from_is_err_and c.from_residual-in_err-source-in-a.result c.from_residual-in_err-source-in-a.ensures.1 in
+    rw (p.1, p.2) (c.in_err-source-in-a.ensures Unpair ∙ ap (λ (l : ℕ). read_by l c.args.bytes.now) (sym c.in-a.is))
 
-pub returns-in_ok-source-2 : goal.returns-in_ok-source-2
+pub returns-in_ok-source-in-a : goal.returns-in_ok-source-in-a
 unfolding read_by
-returns-in_ok-source-2 c = c.in_ok-source-2.ensures Unpair ∙ ap (λ (l : ℕ). read_by l c.args.bytes.now) (sym c.in-a.is)
+returns-in_ok-source-in-a c = c.in_ok-source-in-a.ensures Unpair ∙ ap (λ (l : ℕ). read_by l c.args.bytes.now) (sym c.in-a.is)
 
-pub returns-in_err-source-3 : goal.returns-in_err-source-3
+pub returns-in_err-source-in-h : goal.returns-in_err-source-in-h
 unfolding read_by
-returns-in_err-source-3 c =
-    let p = err_from_is_err_and c.from-residual-in_err-source-3.result c.from-residual-in_err-source-3.ensures.1 in
-    rw (p.1, p.2) (c.in_err-source-3.ensures Hear ∙ ap (λ (l : ℕ). read_by l c.args.bytes.now) (sym c.in-h.is))
+returns-in_err-source-in-h c =
+    let p = err_from_is_err_and c.from_residual-in_err-source-in-h.result c.from_residual-in_err-source-in-h.ensures.1 in
+    rw (p.1, p.2) (c.in_err-source-in-h.ensures Hear ∙ ap (λ (l : ℕ). read_by l c.args.bytes.now) (sym c.in-h.is))
 
-pub returns-in_ok-source-3 : goal.returns-in_ok-source-3
+pub returns-in_ok-source-in-h : goal.returns-in_ok-source-in-h
 unfolding read_by
-returns-in_ok-source-3 c = c.in_ok-source-3.ensures Hear ∙ ap (λ (l : ℕ). read_by l c.args.bytes.now) (sym c.in-h.is)
+returns-in_ok-source-in-h c = c.in_ok-source-in-h.ensures Hear ∙ ap (λ (l : ℕ). read_by l c.args.bytes.now) (sym c.in-h.is)
 
 pub returns-in_default : goal.returns-in_default
 returns-in_default c = other-letter c.args.letter c.args.bytes.now (λ e. omega arith) (λ e. omega arith) (λ e. omega arith) (λ e. omega arith) (λ e. omega arith) (λ e. omega arith)

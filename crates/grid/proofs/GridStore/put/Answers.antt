@@ -3,7 +3,7 @@ use Rattle.grid.specs.Held.{grid_map}
 use Rattle.grid.proofs.Counted.{put-counted}
 use Rattle.grid.proofs.GridStore.put.Goals as goal
 
-pub invariant-of-self : goal.invariant-of-self
-invariant-of-self c =
+pub invariant_of-self : goal.invariant_of-self
+invariant_of-self c =
     let g = c.args.self.now in
-    (put-counted (grid_map g) (matrix_map c.add_unit.new.self) g.count g.counted c.args.u c.add_unit.ensures, (g.within, tt))
+    record { counted = put-counted (grid_map g) (matrix_map c.add_unit.new.self) g.count g.counted c.args.u c.add_unit.ensures; within = g.within }

@@ -15,8 +15,8 @@ gone c =
 pub overflow_sub-self : goal.overflow_sub-self
 overflow_sub-self c = let all = gone c in omega arith
 
-pub invariant-of-self : goal.invariant-of-self
-invariant-of-self c =
+pub invariant_of-self : goal.invariant_of-self
+invariant_of-self c =
     let all = gone c in
     let within : c.args.self.now.count ≤ 8000 = c.args.self.now.within in
-    (omega arith, (omega arith, tt))
+    record { counted = omega arith; within = omega arith }

@@ -18,7 +18,7 @@ loop-w-preserved c y =
       | then-holds w ↦
           ap (λ s. has s y) w.all-is
           ∙ w.union-all.ensures y
-          ∙ ap (λ b. old || b) (w.with-own.ensures y)
+          ∙ ap (λ b. old || b) (w.with_own.ensures y)
           ∙ joined old (outs x u) (eqb y x || ins x y) (sym w.if-holds.ensures)
       | else-holds w ↦ ap (λ s. has s y) w.all-is ∙ skipped old (outs x u) (eqb y x || ins x y) (sym w.if-holds.ensures)
     ]) c.loop-w-test.true

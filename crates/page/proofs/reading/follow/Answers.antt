@@ -20,7 +20,7 @@ wider c k = c.insert.ensures k ∙ ap (λ (l : ℕ). eqb k l || has c.loop-r.row
 pub loop-r-smaller : goal.loop-r-smaller
 loop-r-smaller c =
     met-falls c.args.page.now (order_of c.args.ranks.now) c.loop-r.seen (has c.loop-r.row) (has c.insert.new.self) c.loop-r.r
-    (subst (λ (l : ℕ). l < 256) c.listener_of.ensures c.listener_of.type-inv) (sym c.if-not-may_follow.ensures) (wider c)
+    (subst (λ (l : ℕ). l < 256) c.listener_of.ensures c.listener_of.type_inv) (sym c.if-not-may_follow.ensures) (wider c)
 
 pub loop-r-preserved : goal.loop-r-preserved
 loop-r-preserved c =

@@ -3,5 +3,5 @@ use Rattle.theory.specs.Counts.{pair_count}
 use Rattle.theory.proofs.Counting.{pair-count-none}
 use Rattle.grid.proofs.table.Grid.new.Goals as goal
 
-pub invariant-of-result : goal.invariant-of-result
-invariant-of-result c = (ap pair_count c.new.ensures ∙ pair-count-none, (omega arith, tt))
+pub invariant_of-result : goal.invariant_of-result
+invariant_of-result c = record { counted = ap pair_count c.new.ensures ∙ pair-count-none; within = omega arith }

@@ -29,18 +29,19 @@ renumber-requires c =
       before = insert-before r new c.args.k (omega (arith, r.filled, c.requires.within)) c.put_in.ensures.above;
     }
 
-pub invariant-of-self : goal.invariant-of-self
-invariant-of-self c =
+pub invariant_of-self : goal.invariant_of-self
+invariant_of-self c =
     let r = c.args.self.now in
     let u = c.args.u in
     let new = c.put_in.new.order in
     let kept = c.renumber.ensures.kept in
     let few = room r u c.requires.unit (omega arith) c.requires.absent in
     let absent = insert-absent r c.args.k u (take (r.n + 1) new) c.requires.absent c.put_in.ensures.all in
-    let far = insert-zero r c.args.k u (take (r.n + 1) new) c.requires.absent c.put_in.ensures.all c.requires.unit in (
-      length-take-le (r.n + 1) new (omega arith),
-      (
-        c.renumber.array_long,
-        (kept 0 far ∙ absent 0 far, (c.renumber.ensures.numbered, (λ w out. kept w out ∙ absent w out, tt))),
-      ),
-    )
+    let far = insert-zero r c.args.k u (take (r.n + 1) new) c.requires.absent c.put_in.ensures.all c.requires.unit in
+    record {
+      filled = length-take-le (r.n + 1) new (omega arith);
+      wide = c.renumber.array_long;
+      zero = kept 0 far ∙ absent 0 far;
+      numbered = c.renumber.ensures.numbered;
+      absent = λ w out. kept w out ∙ absent w out;
+    }

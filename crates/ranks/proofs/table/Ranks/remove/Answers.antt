@@ -33,8 +33,8 @@ renumber-requires c =
       before = remove-before r u new on c.take_out.ensures.above;
     }
 
-pub invariant-of-self : goal.invariant-of-self
-invariant-of-self c =
+pub invariant_of-self : goal.invariant_of-self
+invariant_of-self c =
     let r = c.args.self.now in
     let u = c.args.u in
     let on = c.if-rank-eq0.false in
@@ -42,10 +42,14 @@ invariant-of-self c =
     let all = c.take_out.ensures.all in
     let kept = c.renumber.ensures.kept in
     let absent = remove_absent r u units on all (omega arith) in
-    let far = remove-zero r u units on all in (
-      length-take-le (r.n - 1) c.take_out.new.order (omega arith),
-      (c.renumber.array_long, (kept 0 far ∙ absent 0 far, (c.renumber.ensures.numbered, (λ w out. kept w out ∙ absent w out, tt)))),
-    )
+    let far = remove-zero r u units on all in
+    record {
+      filled = length-take-le (r.n - 1) c.take_out.new.order (omega arith);
+      wide = c.renumber.array_long;
+      zero = kept 0 far ∙ absent 0 far;
+      numbered = c.renumber.ensures.numbered;
+      absent = λ w out. kept w out ∙ absent w out;
+    }
 
 pub returns : goal.returns
 returns c =
