@@ -6,7 +6,7 @@ use Rattle.theory.specs.Chains.{Onward, Chain, FewestOrNone}
 use Rattle.theory.proofs.Tests.{passes, passed}
 use Rattle.theory.proofs.Counting.{count_most, count-falls}
 use Rattle.theory.proofs.Chains.{onward-append, heard-last}
-use Rattle.marked_walks.specs.Levels.{Next}
+use Rattle.walks.specs.Levels.{Next}
 use Rattle.walks.proofs.Walked.{Walked, left, walked_start, walked_more, left-falls, old, spread, before, onward-seen}
 
 pub record Level (m : Map) (s t n : ℕ) (seen level : ℕ → Bool) : Type 0 where

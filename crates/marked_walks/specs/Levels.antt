@@ -1,4 +1,4 @@
--- The listeners of a set of units, and the next level of a search.
+-- The listeners of a set of units.
 use Rattle.std.specs.Prelude.{◌≡◌, ℕ, Bool, true, false}
 use Rattle.theory.specs.Maps.{Map}
 
@@ -6,9 +6,3 @@ use Rattle.theory.specs.Maps.{Map}
 pub record Listeners (m : Map) (of set : ℕ → Bool) : Type 0 where
   pub only : (k : ℕ) → set k ≡ true → (j : ℕ) × (of j ≡ true) × (m.pair j k ≡ true)
   pub every : (j k : ℕ) → of j ≡ true → m.pair j k ≡ true → set k ≡ true
-
--- The next level is every unit that a unit of the level is paired to and that was not seen.
-pub record Next (m : Map) (level seen next : ℕ → Bool) : Type 0 where
-  pub from : (k : ℕ) → next k ≡ true → (j : ℕ) × (level j ≡ true) × (m.pair j k ≡ true)
-  pub new : (k : ℕ) → next k ≡ true → seen k ≡ false
-  pub every : (j k : ℕ) → level j ≡ true → m.pair j k ≡ true → seen k ≡ false → next k ≡ true

@@ -5,7 +5,8 @@
 ghost use Rattle.std.specs.Prelude.{◌≡◌, ℕ, ◌≤◌, true, false, ◌||◌, IfSome, ◌==◌};
 ghost use Rattle.units.specs.Has.{has};
 ghost use Rattle.theory.specs.Chains.{FewestOrNone};
-ghost use Rattle.marked_walks.specs.Levels.{Listeners, Next};
+ghost use Rattle.walks.specs.Levels.{Next};
+ghost use Rattle.marked_walks.specs.Levels.{Listeners};
 
 use maps::Map;
 use units::UnitSet;
