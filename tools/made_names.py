@@ -8,7 +8,7 @@ import re
 import sys
 
 FIXED = ["overflow_add", "overflow_sub", "overflow_mul", "overflow_step", "overflow_cast", "overflow_shl", "overflow_shr", "overflow_neg",
-         "in_default", "in_ok", "in_err", "type_inv", "divide_nonzero", "index_in_bounds"]
+         "in_default", "in_ok", "in_err", "type_inv", "divide_nonzero", "index_in_bounds", "from_residual", "split_at_mut", "split_at"]
 
 
 def source_names():

@@ -14,8 +14,9 @@ use Rattle.ranks.specs.Orders as ranks
 use Rattle.plain.specs.declared.BookFault.{BookFault}
 use Rattle.plain.specs.declared.BookFault.TheVariants as fault
 use Rattle.plain.specs.Plain.{Plain, map_of, Lawful}
-use Rattle.plain.specs.Pages.{lawful_by_parts, page_units, page_book, has_ring_or_loop}
+use Rattle.plain.specs.Pages.{lawful_by_parts, page_units, page_book, has_ring}
 use Rattle.plain.specs.Requests.{Request, Load, Check, checks, first_cause, verdict, granted, step, unless, page_checks, too_many}
+use Rattle.page_laws.proofs.Parts.{lawful-parted, ring-looped}
 use Rattle.page_laws.proofs.Lawful.{parts}
 use Rattle.page_laws.proofs.Book.{page-order, page-lawful}
 use Rattle.book.specs.Views.{plain_by, Agrees}
@@ -28,14 +29,19 @@ module _ (capacity : ℕ) (p : Plain) (page : List ℕ) where
   room : List Check
   room = too_many capacity (pair_count (map_of (page_book page))) ∷ []
 
+  -- the checks of a load, part by part
+  load-verdict : verdict capacity p (Load page) ≡ first_cause (page_checks page ++ room)
+  unfolding checks room
+  load-verdict =
+      ap (λ (l : Bool). first_cause ((fault.UnlawfulPage, not l) ∷ (fault.Ring, has_ring (page_book page)) ∷ room)) (lawful-parted page)
+      ∙ ap (λ (r : Bool). first_cause ((fault.UnlawfulPage, not (lawful_by_parts page)) ∷ (fault.Ring, r) ∷ room)) (ring-looped (page_book page))
+
   -- refused for the page itself
   pub page-refused : (cause : BookFault) → first_cause (page_checks page) ≡ Some cause → verdict capacity p (Load page) ≡ Some cause
-  unfolding checks room
-  page-refused cause e = cause-first (page_checks page) room cause e
+  page-refused cause e = load-verdict ∙ cause-first (page_checks page) room cause e
 
   later : first_cause (page_checks page) ≡ None → verdict capacity p (Load page) ≡ first_cause room
-  unfolding checks room
-  later e = cause-later (page_checks page) room e
+  later e = load-verdict ∙ cause-later (page_checks page) room e
 
   -- refused for want of room
   pub room-refused : first_cause (page_checks page) ≡ None → (m : Map) → m ≡ map_of (page_book page) → (why : StoreFault) → copy_cause m capacity ≡ Some why → verdict capacity p (Load page) ≡ Some (fault.Store why)

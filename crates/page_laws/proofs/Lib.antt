@@ -1,4 +1,5 @@
 pub mod Numbers
+pub mod Parts
 pub mod Lawful
 pub mod Follow
 pub mod Units

@@ -12,7 +12,7 @@ returns-in_err-add_answer g c =
     let m = g.S.Map.meaning in
     let answered = c.in_err-add_answer.ensures in
     record {
-      outcome = stopped g.S.Store.room (named_of m c.args.book.now) c.args.log.now (vec_items c.args.out.now) c.loop-rest.rest.now (named_of m c.loop-rest.book) (vec_items c.loop-rest.out) c.split_line.result.0.now _ _ c.from-residual.result c.from-residual.ensures.0 c.loop-rest.invariant.0 (ltb-true 0 (length c.loop-rest.rest.now) (sym c.loop-rest-test.ensures)) c.split_line.ensures.line answered.written answered.left;
+      outcome = stopped g.S.Store.room (named_of m c.args.book.now) c.args.log.now (vec_items c.args.out.now) c.loop-rest.rest.now (named_of m c.loop-rest.book) (vec_items c.loop-rest.out) c.split_line.result.0.now _ _ c.from_residual.result c.from_residual.ensures.0 c.loop-rest.invariant.0 (ltb-true 0 (length c.loop-rest.rest.now) (sym c.loop-rest-test.ensures)) c.split_line.ensures.line answered.written answered.left;
       agreed = answered.agreed;
     }
 

@@ -7,7 +7,7 @@ use Rattle.book.proofs.Book.best_place.Goals as goal
 pub returns-in_err-check_place : goal.returns-in_err-check_place
 returns-in_err-check_place g c =
     let told = place-refused g.S.Store.room (g.S.Map.meaning c.args.self.now.store) (order_of c.args.self.now.ranks) c.args.v c.args.sources.now c.args.listeners.now
-    _ c.from-residual.result c.in_err-check_place.ensures c.from-residual.ensures.1 in
+    _ c.from_residual.result c.in_err-check_place.ensures c.from_residual.ensures.1 in
     record { told = told.0; best = told.1 }
 
 pub best_place-requires : goal.best_place-requires

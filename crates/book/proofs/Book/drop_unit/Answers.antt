@@ -14,7 +14,7 @@ use Rattle.book.proofs.Book.drop_unit.Goals as goal
 pub returns-in_err-check_unit : goal.returns-in_err-check_unit
 unfolding checks
 returns-in_err-check_unit g c = record {
-  applied = refused g.S.Store.room (g.S.Map.meaning c.args.self.now.store) (order_of c.args.self.now.ranks) (Drop c.args.v) c.from-residual.result _ c.in_err-check_unit.ensures c.from-residual.ensures.1;
+  applied = refused g.S.Store.room (g.S.Map.meaning c.args.self.now.store) (order_of c.args.self.now.ranks) (Drop c.args.v) c.from_residual.result _ c.in_err-check_unit.ensures c.from_residual.ensures.1;
   whole = c.requires;
   kept = λ cause e. refl;
 }

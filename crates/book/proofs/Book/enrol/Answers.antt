@@ -16,7 +16,7 @@ use Rattle.book.proofs.Book.enrol.Goals as goal
 pub returns-in_err-check_enrol : goal.returns-in_err-check_enrol
 unfolding checks
 returns-in_err-check_enrol g c = record {
-  applied = refused g.S.Store.room (g.S.Map.meaning c.args.self.now.store) (order_of c.args.self.now.ranks) (Enrol c.args.v c.args.k c.args.sources.now c.args.listeners.now) c.from-residual.result _ c.in_err-check_enrol.ensures c.from-residual.ensures.1;
+  applied = refused g.S.Store.room (g.S.Map.meaning c.args.self.now.store) (order_of c.args.self.now.ranks) (Enrol c.args.v c.args.k c.args.sources.now c.args.listeners.now) c.from_residual.result _ c.in_err-check_enrol.ensures c.from_residual.ensures.1;
   whole = c.requires;
   kept = λ cause e. refl;
 }

@@ -8,8 +8,8 @@ pub returns-in_err-check_both : goal.returns-in_err-check_both
 unfolding checks
 returns-in_err-check_both g c =
     let p = plain_of g.S.Map.meaning c.args.self.now in
-    let told = answered-err (verdict g.S.Store.room p (Hear c.args.s c.args.t)) _ c.from-residual.result _ c.in_err-check_both.ensures c.from-residual.ensures.1 in
-    record { told = told; chains = by-chains (map_of p) c.requires.lawful.sound c.args.s c.args.t _ c.from-residual.result told }
+    let told = answered-err (verdict g.S.Store.room p (Hear c.args.s c.args.t)) _ c.from_residual.result _ c.in_err-check_both.ensures c.from_residual.ensures.1 in
+    record { told = told; chains = by-chains (map_of p) c.requires.lawful.sound c.args.s c.args.t _ c.from_residual.result told }
 
 pub returns : goal.returns
 unfolding checks

@@ -16,7 +16,7 @@ returns-in_err-contents g c =
     let p = plain_of g.S.Map.meaning c.args.self.now in
     let v = page-refused g.S.Store.room p c.args.page.now _ c.in_err-contents.ensures in
     record {
-      told = told-cause (verdict g.S.Store.room p (Load c.args.page.now)) (tt {0}) c.from-residual.result _ v c.from-residual.ensures.1;
+      told = told-cause (verdict g.S.Store.room p (Load c.args.page.now)) (tt {0}) c.from_residual.result _ v c.from_residual.ensures.1;
       left = load-refused g.S.Store.room p c.args.page.now _ v;
       whole = c.requires;
       kept = λ cause e. refl;
@@ -31,7 +31,7 @@ returns-in_err-copy_map g c =
     let whole : Book g.row.S.Denot → Type 0 = Whole g.S.Map.meaning in
     let book : g.row.S.Denot → Book g.row.S.Denot = λ s. record { store = s; ranks = c.args.self.now.ranks; labels = c.args.self.now.labels } in
     record {
-      told = told-cause (verdict g.S.Store.room p (Load c.args.page.now)) (tt {0}) c.from-residual-in_err-copy_map.result _ v c.from-residual-in_err-copy_map.ensures.1;
+      told = told-cause (verdict g.S.Store.room p (Load c.args.page.now)) (tt {0}) c.from_residual-in_err-copy_map.result _ v c.from_residual-in_err-copy_map.ensures.1;
       left = ap (λ s. plain_of g.S.Map.meaning (book s)) same ∙ load-refused g.S.Store.room p c.args.page.now _ v;
       whole = subst (λ s. whole (book s)) (sym same) c.requires;
       kept = λ cause e. ap book same;

@@ -15,7 +15,7 @@ returns-in_err-check_unit g c =
     let kept = out-holders-kept (map_of p) p.order c.args.self.now.labels c.requires.exact c.args.u in
     record {
       listed =
-          (list-refused g.S.Store.room p (OutHolders c.args.u (length c.args.buffer.now)) (out_holders (map_of p) p.order c.args.u) c.args.buffer.now c.args.u refl _ c.from-residual.result c.in_err-check_unit.ensures c.from-residual.ensures.1);
+          (list-refused g.S.Store.room p (OutHolders c.args.u (length c.args.buffer.now)) (out_holders (map_of p) p.order c.args.u) c.args.buffer.now c.args.u refl _ c.from_residual.result c.in_err-check_unit.ensures c.from_residual.ensures.1);
       kept = kept;
     }
 

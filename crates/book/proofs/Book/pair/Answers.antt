@@ -12,7 +12,7 @@ use Rattle.book.proofs.Book.pair.Goals as goal
 pub returns-in_err-check_pair : goal.returns-in_err-check_pair
 unfolding checks
 returns-in_err-check_pair g c = record {
-  applied = refused g.S.Store.room (g.S.Map.meaning c.args.self.now.store) (order_of c.args.self.now.ranks) (Pair c.args.a c.args.b) c.from-residual.result _ c.in_err-check_pair.ensures c.from-residual.ensures.1;
+  applied = refused g.S.Store.room (g.S.Map.meaning c.args.self.now.store) (order_of c.args.self.now.ranks) (Pair c.args.a c.args.b) c.from_residual.result _ c.in_err-check_pair.ensures c.from_residual.ensures.1;
   whole = c.requires;
   kept = λ cause e. refl;
 }

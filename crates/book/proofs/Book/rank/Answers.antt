@@ -14,7 +14,7 @@ use Rattle.book.proofs.Book.rank.Goals as goal
 pub returns-in_err-check_rank : goal.returns-in_err-check_rank
 unfolding checks
 returns-in_err-check_rank g c = record {
-  applied = refused g.S.Store.room (g.S.Map.meaning c.args.self.now.store) (order_of c.args.self.now.ranks) (Rank c.args.v c.args.k) c.from-residual.result _ c.in_err-check_rank.ensures c.from-residual.ensures.1;
+  applied = refused g.S.Store.room (g.S.Map.meaning c.args.self.now.store) (order_of c.args.self.now.ranks) (Rank c.args.v c.args.k) c.from_residual.result _ c.in_err-check_rank.ensures c.from_residual.ensures.1;
   whole = c.requires;
   kept = λ cause e. refl;
 }

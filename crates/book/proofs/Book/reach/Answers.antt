@@ -7,7 +7,7 @@ use Rattle.book.proofs.Book.reach.Goals as goal
 pub returns-in_err-check_reach : goal.returns-in_err-check_reach
 returns-in_err-check_reach g c =
     let told = reach-refused g.S.Store.room (g.S.Map.meaning c.args.self.now.store) (order_of c.args.self.now.ranks) c.requires.stored c.requires.lawful c.args.s c.args.t c.args.sheet.now
-    _ c.from-residual.result c.in_err-check_reach.ensures c.from-residual.ensures.1 in
+    _ c.from_residual.result c.in_err-check_reach.ensures c.from_residual.ensures.1 in
     record { told = told.0; chains = told.1; same = refl }
 
 pub reach-requires : goal.reach-requires

@@ -12,7 +12,7 @@ use Rattle.book.proofs.Book.unpair.Goals as goal
 pub returns-in_err-check_unpair : goal.returns-in_err-check_unpair
 unfolding checks
 returns-in_err-check_unpair g c = record {
-  applied = refused g.S.Store.room (g.S.Map.meaning c.args.self.now.store) (order_of c.args.self.now.ranks) (Unpair c.args.a c.args.b) c.from-residual.result _ c.in_err-check_unpair.ensures c.from-residual.ensures.1;
+  applied = refused g.S.Store.room (g.S.Map.meaning c.args.self.now.store) (order_of c.args.self.now.ranks) (Unpair c.args.a c.args.b) c.from_residual.result _ c.in_err-check_unpair.ensures c.from_residual.ensures.1;
   whole = c.requires;
   kept = λ cause e. refl;
 }

@@ -11,7 +11,7 @@ unfolding asked
 returns-in_err-unit g c =
     let n = named_of g.S.Map.meaning c.args.self.now in
     record {
-      obeyed = name-exit g.S.Store.room n (said.Drop c.args.name.now) c.from-residual.result _ (one-refused n.names Drop c.args.name.now _ c.in_err-unit.ensures) c.from-residual.ensures.1;
+      obeyed = name-exit g.S.Store.room n (said.Drop c.args.name.now) c.from_residual.result _ (one-refused n.names Drop c.args.name.now _ c.in_err-unit.ensures) c.from_residual.ensures.1;
       whole = c.requires.agreed.0;
       kept = λ cause e. refl;
     }
@@ -25,8 +25,8 @@ returns-in_err-labels g c =
     let same = c.in_err-labels.ensures.kept _ refl in
     record {
       obeyed =
-          subst (λ b. Obeyed g.S.Store.room n s c.from-residual-in_err-labels.result (named_of g.S.Map.meaning (record { book = b; cards = c.args.self.now.cards }))) (sym same)
-          (card-exit g.S.Store.room n s (Drop c.in_ok-unit.unit) asks c.from-residual-in_err-labels.result _ _ c.in_err-labels.ensures.applied c.from-residual-in_err-labels.ensures.1);
+          subst (λ b. Obeyed g.S.Store.room n s c.from_residual-in_err-labels.result (named_of g.S.Map.meaning (record { book = b; cards = c.args.self.now.cards }))) (sym same)
+          (card-exit g.S.Store.room n s (Drop c.in_ok-unit.unit) asks c.from_residual-in_err-labels.result _ _ c.in_err-labels.ensures.applied c.from_residual-in_err-labels.ensures.1);
       whole = c.in_err-labels.ensures.whole;
       kept = λ cause e. ap (λ b. record { book = b; cards = c.args.self.now.cards }) same;
     }

@@ -10,7 +10,7 @@ pub returns-in_err-check_free : goal.returns-in_err-check_free
 returns-in_err-check_free g c =
     let n = named_of g.S.Map.meaning c.args.self.now in
     record {
-      obeyed = name-exit g.S.Store.room n (said.Enrol c.args.number c.args.name.now c.args.rank) c.from-residual.result _ (new-refused n.names c.args.number c.digits.result c.args.name.now c.args.rank _ c.digits.ensures.is c.in_err-check_free.ensures) c.from-residual.ensures.1;
+      obeyed = name-exit g.S.Store.room n (said.Enrol c.args.number c.args.name.now c.args.rank) c.from_residual.result _ (new-refused n.names c.args.number c.digits.result c.args.name.now c.args.rank _ c.digits.ensures.is c.in_err-check_free.ensures) c.from_residual.ensures.1;
       whole = c.requires.agreed.0;
       kept = λ cause e. refl;
     }
@@ -24,8 +24,8 @@ returns-in_err-labels g c =
     let same = c.in_err-labels.ensures.kept _ refl in
     record {
       obeyed =
-          subst (λ b. Obeyed g.S.Store.room n s c.from-residual-in_err-labels.result (named_of g.S.Map.meaning (record { book = b; cards = c.args.self.now.cards }))) (sym same)
-          (card-exit g.S.Store.room n s a asks c.from-residual-in_err-labels.result _ _ c.in_err-labels.ensures.applied c.from-residual-in_err-labels.ensures.1);
+          subst (λ b. Obeyed g.S.Store.room n s c.from_residual-in_err-labels.result (named_of g.S.Map.meaning (record { book = b; cards = c.args.self.now.cards }))) (sym same)
+          (card-exit g.S.Store.room n s a asks c.from_residual-in_err-labels.result _ _ c.in_err-labels.ensures.applied c.from_residual-in_err-labels.ensures.1);
       whole = c.in_err-labels.ensures.whole;
       kept = λ cause e. ap (λ b. record { book = b; cards = c.args.self.now.cards }) same;
     }

@@ -10,7 +10,7 @@ pub returns-in_err-a : goal.returns-in_err-a
 unfolding asked
 returns-in_err-a g c =
     let n = named_of g.S.Map.meaning c.args.self.now in
-    name-exit g.S.Store.room n (said.Hear c.args.source.now c.args.listener.now) c.from-residual.result _ (two-refused n.names Hear c.args.source.now c.args.listener.now _ c.in_err-a.ensures) c.from-residual.ensures.1
+    name-exit g.S.Store.room n (said.Hear c.args.source.now c.args.listener.now) c.from_residual.result _ (two-refused n.names Hear c.args.source.now c.args.listener.now _ c.in_err-a.ensures) c.from_residual.ensures.1
 
 pub returns : goal.returns
 unfolding asked granted

@@ -11,7 +11,7 @@ unfolding asked
 returns-in_err-unit g c =
     let n = named_of g.S.Map.meaning c.args.self.now in
     record {
-      obeyed = name-exit g.S.Store.room n (said.Rank c.args.name.now c.args.rank) c.from-residual.result _ (one-refused n.names (λ u. Rank u c.args.rank) c.args.name.now _ c.in_err-unit.ensures) c.from-residual.ensures.1;
+      obeyed = name-exit g.S.Store.room n (said.Rank c.args.name.now c.args.rank) c.from_residual.result _ (one-refused n.names (λ u. Rank u c.args.rank) c.args.name.now _ c.in_err-unit.ensures) c.from_residual.ensures.1;
       whole = c.requires.agreed.0;
       kept = λ cause e. refl;
     }

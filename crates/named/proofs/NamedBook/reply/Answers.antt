@@ -11,7 +11,7 @@ returns-in_err-line g c =
     let n = named_of g.S.Map.meaning c.args.self.now in
     let is = c.in_err-line.ensures.is in
     record {
-      told = form-told g.S.Store.room n c.args.bytes.now _ c.from-residual.result is c.from-residual.ensures.1;
+      told = form-told g.S.Store.room n c.args.bytes.now _ c.from_residual.result is c.from_residual.ensures.1;
       left = form-left g.S.Store.room n c.args.bytes.now _ is;
       agreed = c.requires;
       kept = λ refusal e. refl;

@@ -11,7 +11,7 @@ unfolding asked
 returns-in_err-a g c =
     let n = named_of g.S.Map.meaning c.args.self.now in
     record {
-      obeyed = name-exit g.S.Store.room n (said.Unpair c.args.source.now c.args.listener.now) c.from-residual.result _ (two-refused n.names Unpair c.args.source.now c.args.listener.now _ c.in_err-a.ensures) c.from-residual.ensures.1;
+      obeyed = name-exit g.S.Store.room n (said.Unpair c.args.source.now c.args.listener.now) c.from_residual.result _ (two-refused n.names Unpair c.args.source.now c.args.listener.now _ c.in_err-a.ensures) c.from_residual.ensures.1;
       whole = c.requires.agreed.0;
       kept = λ cause e. refl;
     }
