@@ -15,5 +15,5 @@ returns-in-Ok c =
 pub returns-in-Err : goal.returns-in-Err
 unfolding text
 returns-in-Err c =
-    let e = c.text_in-Err.ensures.text ∙ ap text (sym c.in-Err.is) in
+    let e = c.text-in-Err.ensures.text ∙ ap text (sym c.in-Err.is) in
     record { len = c.copy_to-in-Err.ensures.len ∙ ap length e; short = c.copy_to-in-Err.ensures.short; buffer = copied _ _ _ _ e c.copy_to-in-Err.ensures.buffer }
