@@ -64,7 +64,7 @@ impl<S: Store> Book<S> {
     // Whether t hears s, told by the kept labels.
     fn is_heard(&self, s: u8, t: u8) -> bool
         requires whole { Whole S.Map.meaning self.now }
-        requires s_value { (stands (plain_of S.Map.meaning self.now) s ≡ true) × (stands (plain_of S.Map.meaning self.now) t ≡ true) }
+        requires both { (stands (plain_of S.Map.meaning self.now) s ≡ true) × (stands (plain_of S.Map.meaning self.now) t ≡ true) }
         ensures { result ≡ hears (plain_of S.Map.meaning self.now) t s }
     {
         self.labels

@@ -50,8 +50,8 @@ fn put_units<M: Map, S: Store>(from: &M, into: &mut S) -> Result<(), StoreFault>
 
 // Joins every pairing of the map in a store that has its units.
 fn join_rows<M: Map, S: Store>(from: &M, into: &mut S) -> Result<(), StoreFault>
-    requires into_value { S.Map.meaning into.old ≡ unpaired (M.Map.meaning from.now) }
-    requires from_bound { pair_count (M.Map.meaning from.now) ≤ S.Store.room }
+    requires unjoined { S.Map.meaning into.old ≡ unpaired (M.Map.meaning from.now) }
+    requires fits { pair_count (M.Map.meaning from.now) ≤ S.Store.room }
     ensures granted { result ≡ Ok tt }
     ensures left { S.Map.meaning into.new ≡ M.Map.meaning from.now }
 {
@@ -64,8 +64,8 @@ fn join_rows<M: Map, S: Store>(from: &M, into: &mut S) -> Result<(), StoreFault>
 
 // Joins the pairings that lead from a, in a store that has those that lead from the units below a.
 fn join_row<M: Map, S: Store>(from: &M, a: u8, into: &mut S) -> Result<(), StoreFault>
-    requires into_value { S.Map.meaning into.old ≡ rows_below a (M.Map.meaning from.now) }
-    requires from_bound { pair_count (M.Map.meaning from.now) ≤ S.Store.room }
+    requires joined { S.Map.meaning into.old ≡ rows_below a (M.Map.meaning from.now) }
+    requires fits { pair_count (M.Map.meaning from.now) ≤ S.Store.room }
     ensures granted { result ≡ Ok tt }
     ensures left { S.Map.meaning into.new ≡ rows_below (a + 1) (M.Map.meaning from.now) }
 {

@@ -1,5 +1,5 @@
 -- Chains joined, parted and turned.
-use Rattle.std.proofs.Common.{◌≡◌, ℕ, T, ◌⊎◌, ◌↔◌, List, [], ◌∷◌, ◌++◌, sym, refl, subst, inl, inr}
+use Rattle.std.proofs.Common.{ℕ, T, ◌↔◌, List, [], ◌∷◌, ◌++◌, sym, refl, subst, inl, inr}
 use Rattle.theory.specs.Maps.{Map, Sound, turned}
 use Rattle.theory.proofs.Maps.{turned-sound}
 use Rattle.theory.specs.Chains.{Onward, Chain, On, Heard}

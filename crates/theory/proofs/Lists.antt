@@ -1,5 +1,5 @@
 -- Lists picked from an order: what they hold, and that they ascend in rank.
-use Rattle.std.proofs.Common.{◌≡◌, ℕ, ◌<◌, Bool, true, false, cond, T, eqb, ◌⊎◌, ◌↔◌, List, [], ◌∷◌, sym, refl, subst, inl, inr, ⊎_elim, arith, eqb→eq}
+use Rattle.std.proofs.Common.{◌≡◌, ℕ, ◌<◌, Bool, true, false, cond, T, eqb, ◌↔◌, List, [], ◌∷◌, sym, refl, subst, inl, inr, ⊎_elim, arith, eqb→eq}
 use mathlib.Core.Logic.{⊎_map}
 use lib.Dec.{eqb_refl}
 use Rattle.theory.specs.Maps.{Map, Sound, turned, listed}
