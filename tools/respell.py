@@ -49,22 +49,23 @@ def declared():
     """name -> list of (file, new name) for the words and types that specs/ and proofs/ declare."""
     found = collections.defaultdict(set)
     for path in files():
-        if not path.endswith(".antt") or os.path.basename(path) in ("Answers.antt", "Invariants.antt"):
-            continue
         in_specs = "/specs/" in path
+        if not path.endswith(".antt") or (not in_specs and os.path.basename(path) in ("Answers.antt", "Invariants.antt")):
+            continue
         inside = None
         for line in open(path, encoding="utf-8"):
             text = line.split("--")[0] if line.lstrip().startswith("--") else line
-            if re.match(r"(pub )?record ", text):
-                inside = "record"
-            elif text[:1] not in (" ", "\n") and not re.match(r"(pub )?record ", text):
+            depth = len(text) - len(text.lstrip())
+            if re.match(r"\s*(pub )?record ", text):
+                inside = depth
+            elif text.strip() and inside is not None and depth <= inside:
                 inside = None
             m = DECLARED.match(text)
             if not m:
                 continue
             how, name = m.group("how"), m.group("name")
             word = how.startswith(("abbrev", "unfoldable")) or "record" in how or "data" in how
-            field = in_specs and inside == "record" and how.startswith("pub") and text.startswith("  ")
+            field = in_specs and inside is not None and how.startswith("pub") and depth > inside
             if not (word or field):
                 continue
             if name[:1].isupper():

@@ -11,7 +11,7 @@ use Rattle.plain.specs.declared.BookFault.{BookFault}
 use Rattle.plain.specs.declared.BookFault.TheVariants as fault
 use Rattle.plain.specs.Plain.{Plain}
 use Rattle.plain.specs.Requests.{Request, Check, checks, first_cause, unknown, short_list, verdict}
-use Rattle.book.specs.Answers.{answered, filled, fault-of, Lists}
+use Rattle.book.specs.Answers.{answered, filled, fault_of, Lists}
 use Rattle.book.proofs.Answering.{no-cause, the-cause}
 
 -- the first of two lists of checks has the first word
@@ -43,7 +43,7 @@ module _ (capacity : ℕ) (p : Plain) (r : Request) (xs before : List ℕ) (u : 
       }
 
   pub list-told : (got : Result ℕ ShortBuffer) (answer : Result ℕ BookFault) (after : List ℕ) → Ok (tt {0}) ≡ answered (first_cause (unknown p (u ∷ []) ∷ [])) (tt {0}) →
-      Listed xs before got after → answer ≡ fault-of got → Lists capacity p r xs before answer after
+      Listed xs before got after → answer ≡ fault_of got → Lists capacity p r xs before answer after
   list-told got answer after e l f = go (leb (length xs) (length before)) refl
     where
       v : verdict capacity p r ≡ cond (ltb (length before) (length xs)) (Some fault.ShortBuffer) None
@@ -53,13 +53,13 @@ module _ (capacity : ℕ) (p : Plain) (r : Request) (xs before : List ℕ) (u : 
       go true t =
           let w : verdict capacity p r ≡ None = v ∙ ap (λ (z : Bool). cond z (Some fault.ShortBuffer) None) (le-ltb (length before) (length xs) (leb-true _ _ t)) in
           record {
-            told = f ∙ ap fault-of (l.tells ∙ ap (λ (z : Bool). cond z (Ok (length xs)) (Err (record {}))) t) ∙ ap (λ z. answered z (length xs)) (sym w);
+            told = f ∙ ap fault_of (l.tells ∙ ap (λ (z : Bool). cond z (Ok (length xs)) (Err (record {}))) t) ∙ ap (λ z. answered z (length xs)) (sym w);
             left = l.leaves ∙ ap (λ (z : Bool). cond z (xs ++ drop (length xs) before) before) t ∙ ap (λ z. filled z xs before) (sym w);
           }
       go false t =
           let w : verdict capacity p r ≡ Some fault.ShortBuffer = v ∙ ap (λ (z : Bool). cond z (Some fault.ShortBuffer) None) (lt-ltb (length before) (length xs) (leb-false _ _ t)) in
           record {
-            told = f ∙ ap fault-of (l.tells ∙ ap (λ (z : Bool). cond z (Ok (length xs)) (Err (record {}))) t) ∙ ap (λ z. answered z (length xs)) (sym w);
+            told = f ∙ ap fault_of (l.tells ∙ ap (λ (z : Bool). cond z (Ok (length xs)) (Err (record {}))) t) ∙ ap (λ z. answered z (length xs)) (sym w);
             left = l.leaves ∙ ap (λ (z : Bool). cond z (xs ++ drop (length xs) before) before) t ∙ ap (λ z. filled z xs before) (sym w);
           }
 

@@ -13,11 +13,11 @@ use Rattle.plain.specs.Requests.{Save, Load, checks, first_cause, granted, verdi
 use Rattle.maps.specs.declared.fault.StoreFault.TheVariants.{Full}
 use Rattle.page_laws.proofs.Saved.{saved-length}
 use Rattle.page_laws.proofs.RoundTrip.{saved-reads-back}
-use Rattle.book.specs.Answers.{answered, placed, Loads-to, Saves}
+use Rattle.book.specs.Answers.{answered, placed, LoadsTo, Saves}
 use Rattle.book.proofs.Loading.{load-granted}
 
 -- a saved page is granted wherever there is room, and is the book again
-loads : (p : Plain) → Lawful p → pair_count (map_of p) ≤ 8000 → Loads-to (saved_page p) p
+loads : (p : Plain) → Lawful p → pair_count (map_of p) ≤ 8000 → LoadsTo (saved_page p) p
 unfolding granted
 loads p law few room other fit =
     let back = saved-reads-back p law few in (

@@ -31,9 +31,9 @@ pub record Lists (capacity : ℕ) (p : Plain) (r : Request) (list before : List 
   pub left : after ≡ filled (verdict capacity p r) list before
 
 -- The fault of the kept labels, as a book's.
-abbrev pub fault-of : Result ℕ ShortBuffer → Result ℕ BookFault
-fault-of (Ok n) = Ok n
-fault-of (Err e) = Err fault.ShortBuffer
+abbrev pub fault_of : Result ℕ ShortBuffer → Result ℕ BookFault
+fault_of (Ok n) = Ok n
+fault_of (Err e) = Err fault.ShortBuffer
 
 -- A request for a change: how many labels it alters, or the cause for which it is refused, is told; the book after it is what the request makes of it.
 pub record Applied (capacity : ℕ) (p : Plain) (r : Request) (answer : Result ℕ BookFault) (after : Plain) : Type 0 where
@@ -51,11 +51,11 @@ placed None place page buffer = take place buffer ++ (page ++ drop (place + leng
 placed (Some cause) place page buffer = buffer
 
 -- The page loads to the plain book p in place of any other, wherever there is room for its pairings.
-abbrev pub Loads-to : List ℕ → Plain → Type 0
-Loads-to page p = (room : ℕ) (other : Plain) → pair_count (map_of p) ≤ room → (verdict room other (Load page) ≡ None) × (granted other (Load page) ≡ p)
+abbrev pub LoadsTo : List ℕ → Plain → Type 0
+LoadsTo page p = (room : ℕ) (other : Plain) → pair_count (map_of p) ≤ room → (verdict room other (Load page) ≡ None) × (granted other (Load page) ≡ p)
 
 -- The page of the book was asked for: its length is told and it stands in the buffer, or the cause is told and the buffer stays.
 pub record Saves (capacity : ℕ) (p : Plain) (place : ℕ) (before : List ℕ) (answer : Result ℕ BookFault) (after : List ℕ) : Type 0 where
   pub told : answer ≡ answered (verdict capacity p (Save place (length before))) (length (saved_page p))
   pub left : after ≡ placed (verdict capacity p (Save place (length before))) place (saved_page p) before
-  pub back : Loads-to (saved_page p) p
+  pub back : LoadsTo (saved_page p) p

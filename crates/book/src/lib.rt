@@ -12,7 +12,7 @@ ghost use Rattle.plain.specs.Plain.{map_of, empty, hears};
 ghost use Rattle.plain.specs.Lists.{some, doubled};
 ghost use Rattle.plain.specs.Requests.{Hear, Enrol, Pair, Unpair, Drop, Rank, enrol_checks, partners, rank_checks, pair_checks, unpair_checks, InLabels, OutLabels, InHolders, OutHolders, first_cause, unknown, stands, verdict};
 ghost use Rattle.book.specs.Views.{plain_of, Whole, kept_in_labels, kept_out_labels, kept_in_holders, kept_out_holders};
-ghost use Rattle.book.specs.Answers.{answered, ByChains, Lists, Applied, fault-of};
+ghost use Rattle.book.specs.Answers.{answered, ByChains, Lists, Applied, fault_of};
 
 use grid::Matrix;
 use labels::{Holders, Labels, ShortBuffer};
@@ -325,7 +325,7 @@ impl<S: Store> Book<S> {
 
 // The fault of the labels, as the book's.
 fn fitted(answer: Result<usize, ShortBuffer>) -> Result<usize, BookFault>
-    ensures { result ≡ fault-of answer }
+    ensures { result ≡ fault_of answer }
 {
     match answer {
         Ok(n) => Ok(n),

@@ -1,5 +1,5 @@
 -- The number of pairings goes along with each change.
-use Rattle.std.proofs.Common.{◌≡◌, ℕ, ◌+◌, ◌-◌, ◌<◌, Bool, true, false, refl, ap, ◌∙◌, arith}
+use Rattle.std.proofs.Common.{◌≡◌, ℕ, ◌+◌, ◌<◌, Bool, true, false, refl, ap, ◌∙◌, arith}
 use Rattle.theory.specs.Maps.{Map, with_unit, without_unit, with_pair, without_pair}
 use Rattle.theory.specs.Counts.{count, pair_count}
 use Rattle.theory.proofs.Counting.{count_same, pair-count-same, pair-count-with, pair-count-without}

@@ -1,5 +1,5 @@
 -- The map that a list of sets stands for, and what the sets of a matrix keep.
-use Rattle.std.specs.Prelude.{◌≡◌, ℕ, Bool, true, false, List}
+use Rattle.std.specs.Prelude.{◌≡◌, ℕ, true, false, List}
 use Rattle.units.specs.declared.UnitSet.{UnitSet}
 use Rattle.units.specs.Has.{has, in_row}
 use Rattle.theory.specs.Maps.{Map}

@@ -39,11 +39,11 @@ module _ {S : Type 0} (means : S → Map) (book : Book S) (whole : Whole means b
   sufficient : Sufficient means book p
   sufficient = record {
     shared = λ s t us ut. told-by (λ xs ys. T (shares (s ∷ xs) (t ∷ ys)) ↔ Hears p t s) s t (cover (map_of p) law.sound p.order law.orders s t us ut).1;
-    in-needed = λ u v o.
+    in_needed = λ u v o.
         let label = (lists-told (map_of p) law.sound p.order law.orders v).0.only u (subst (On u) (four-lists v).in_labels_same o) in
         let struck = minimal-in (map_of p) law.sound p.order law.orders u v label in
         (struck.0, told-by (λ xs ys. T (shares (u ∷ xs) (v ∷ removed u ys)) → ⊥) u v struck.2);
-    out-needed = λ u v o.
+    out_needed = λ u v o.
         let label = (lists-told (map_of p) law.sound p.order law.orders v).1.only u (subst (On u) (four-lists v).out_labels_same o) in
         let struck = minimal-out (map_of p) law.sound p.order law.orders u v label in
         (struck.0, told-by (λ xs ys. T (shares (v ∷ removed u xs) (u ∷ ys)) → ⊥) v u struck.2);

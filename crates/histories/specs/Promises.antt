@@ -25,9 +25,9 @@ module _ {S : Type 0} (means : S → Map) where
     -- s with its out-labels and t with its in-labels share a unit exactly when t hears s
     pub shared : (s t : ℕ) → T (stands p s) → T (stands p t) → T (shares (s ∷ kept_out_labels means book s) (t ∷ kept_in_labels means book t)) ↔ Hears p t s
     -- with an in-label u of v struck, v still hears u, and the two lists share none
-    pub in-needed : (u v : ℕ) → On u (kept_in_labels means book v) → Hears p v u × (T (shares (u ∷ kept_out_labels means book u) (v ∷ removed u (kept_in_labels means book v))) → ⊥)
+    pub in_needed : (u v : ℕ) → On u (kept_in_labels means book v) → Hears p v u × (T (shares (u ∷ kept_out_labels means book u) (v ∷ removed u (kept_in_labels means book v))) → ⊥)
     -- with an out-label u of v struck, u still hears v, and the two lists share none
-    pub out-needed : (u v : ℕ) → On u (kept_out_labels means book v) → Hears p u v × (T (shares (v ∷ removed u (kept_out_labels means book v)) (u ∷ kept_in_labels means book u)) → ⊥)
+    pub out_needed : (u v : ℕ) → On u (kept_out_labels means book v) → Hears p u v × (T (shares (v ∷ removed u (kept_out_labels means book v)) (u ∷ kept_in_labels means book u)) → ⊥)
 
   -- The book after the requests, of which the first made it, and the replies to them.
   pub record Promised (capacity : ℕ) (requests : List Request) (book : Book S) (given : List Reply) : Type 0 where

@@ -1,5 +1,5 @@
 -- The listeners of a set of units.
-use Rattle.std.specs.Prelude.{◌≡◌, ℕ, Bool, true, false}
+use Rattle.std.specs.Prelude.{◌≡◌, ℕ, Bool, true}
 use Rattle.theory.specs.Maps.{Map}
 
 -- The set has every unit that a unit of the other is paired to, and no other.

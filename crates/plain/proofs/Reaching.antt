@@ -1,13 +1,12 @@
 -- The number that is told is the fewest pairings over chains: a chain of at most n pairings is what the recursion on n looks for.
-use Rattle.std.proofs.Common.{◌≡◌, ℕ, zero, suc, ◌+◌, ◌<◌, ◌≤◌, Bool, true, false, cond, ◌&&◌, ◌||◌, T, eqb, ◌⊎◌, List, [], ◌∷◌, length, IfSome, Some, None, Option, sym, refl, ap, ◌∙◌, subst, inl, inr, ⊎_elim, arith, eqb→eq}
+use Rattle.std.proofs.Common.{◌≡◌, ℕ, zero, suc, ◌+◌, ◌<◌, ◌≤◌, Bool, true, false, cond, ◌&&◌, T, eqb, List, [], ◌∷◌, length, IfSome, Some, None, Option, sym, refl, ap, ◌∙◌, subst, inl, inr, ⊎_elim, arith, eqb→eq}
 use lib.Dec.{eqb_refl}
-use Rattle.std.proofs.lemmas.Bool.{cases_Bool, cases_eq, both_ways}
+use Rattle.std.proofs.lemmas.Bool.{cases_Bool, cases_eq}
 use Rattle.theory.specs.Maps.{Map, Sound, listed}
 use Rattle.theory.specs.Chains.{Onward, On, FewestOrNone}
 use Rattle.theory.proofs.Tests.{and-fst, and-snd, and_both, or-either, or_fst, or_snd, passes, passed}
 use Rattle.theory.proofs.Maps.{hidden-sound}
 use Rattle.theory.proofs.Lists.{listed-on}
-use Rattle.plain.specs.Lists.{some}
 use Rattle.plain.specs.Plain.{Plain, map_of}
 use Rattle.plain.specs.Reaching.{off, open_map, within, first_number, reach_told}
 use Rattle.plain.proofs.Some.{some-on}

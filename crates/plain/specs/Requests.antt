@@ -1,5 +1,5 @@
 -- The requests that can be put to a book; when each is refused, and what it changes.
-use Rattle.std.specs.Prelude.{ℕ, ◌+◌, ◌-◌, ◌*◌, Bool, true, false, cond, not, ◌&&◌, ◌||◌, ltb, List, [], ◌∷◌, ◌++◌, length, Some, None, Option, ◌==◌, nat_lt}
+use Rattle.std.specs.Prelude.{ℕ, ◌+◌, ◌-◌, ◌*◌, Bool, cond, not, ◌||◌, ltb, List, [], ◌∷◌, ◌++◌, length, Some, None, Option, ◌==◌, nat_lt}
 use Rattle.maps.specs.declared.fault.StoreFault.TheVariants.{Full}
 use Rattle.theory.specs.Maps.{listed, with_pair, without_pair, without_unit, enrolled}
 use Rattle.theory.specs.Counts.{pair_count}
@@ -8,7 +8,7 @@ use Rattle.theory.specs.Lists.{in_labels, out_labels, in_holders, out_holders}
 use Rattle.plain.specs.declared.BookFault.{BookFault}
 use Rattle.plain.specs.declared.BookFault.TheVariants as fault
 use Rattle.plain.specs.Plain.{Plain, map_of, empty, hears}
-use Rattle.plain.specs.Lists.{every, some, doubled}
+use Rattle.plain.specs.Lists.{some, doubled}
 use Rattle.plain.specs.Pages.{lawful_page, page_book, has_ring, lawful_by_parts, has_ring_or_loop}
 
 -- Ranks are counted from 1. `room` is the length of the buffer that is lent.

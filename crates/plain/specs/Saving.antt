@@ -1,5 +1,5 @@
 -- A plain book written as a page. Pairing records are numbered by the rank of the source, then by the number of the listener.
-use Rattle.std.specs.Prelude.{ℕ, ◌+◌, ◌*◌, ◌/◌, ◌%◌, Bool, List, [], ◌∷◌, ◌++◌, length}
+use Rattle.std.specs.Prelude.{ℕ, ◌+◌, ◌/◌, ◌%◌, Bool, List, [], ◌∷◌, ◌++◌, length}
 use Rattle.theory.specs.Counts.{pair_count}
 use Rattle.theory.specs.Lists.{picked}
 use Rattle.plain.specs.Lists.{numbers}

@@ -1,8 +1,8 @@
 -- Past the last set there is no member.
-use Rattle.std.proofs.Common.{◌≡◌, ℕ, zero, suc, ◌<◌, ◌≤◌, Bool, true, false, ◌&&◌, ltb, List, [], ◌∷◌, length, get_or, sym, refl, ap, ◌∙◌, ⊎_elim, arith}
+use Rattle.std.proofs.Common.{◌≡◌, ℕ, zero, suc, ◌<◌, ◌≤◌, Bool, false, ◌&&◌, ltb, List, [], ◌∷◌, length, sym, ap, ◌∙◌, ⊎_elim, arith}
 use Rattle.std.proofs.lemmas.Bool.{cases_lt, lt-ltb, and_right}
 use Rattle.units.specs.declared.UnitSet.{UnitSet}
-use Rattle.units.specs.Has.{has, blank, in_row}
+use Rattle.units.specs.Has.{in_row}
 use Rattle.units.proofs.Members.{member-blank}
 use Rattle.grid.proofs.rows.transposed.Goals as goal
 
