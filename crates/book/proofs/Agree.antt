@@ -1,5 +1,5 @@
 -- Store, ranks and labels agree where the order is one of the map and the labels are exact.
-use Rattle.std.proofs.Common.{◌≡◌, ℕ, Bool, false, T, List, [], sym, refl, ap, ◌∙◌, subst}
+use Rattle.std.proofs.Common.{◌≡◌, ℕ, false, List, [], sym, refl, ap, ◌∙◌, subst}
 use Rattle.theory.specs.Maps.{Map, Sound, listed, nothing}
 use Rattle.theory.specs.Chains.{NoRing}
 use Rattle.theory.specs.Ranks.{rank_in, Orders}
@@ -13,7 +13,7 @@ use Rattle.theory.proofs.Enrols.{changes-sound}
 use Rattle.theory.proofs.Rings.{rings-kept-out}
 use Rattle.labels.specs.declared.Labels.{Labels}
 use Rattle.labels.specs.Holding.{holds, Exact}
-use Rattle.plain.specs.Plain.{Plain, map_of, Lawful}
+use Rattle.plain.specs.Plain.{map_of}
 use Rattle.book.specs.Views.{plain_by, Agrees}
 
 -- the four facts on the map itself

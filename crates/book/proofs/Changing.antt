@@ -1,22 +1,21 @@
 -- One argument for all changes: labels mended after a change are exact again, and what is told and left is what the request makes of the plain book.
-use Rattle.std.proofs.Common.{◌≡◌, ℕ, Bool, true, false, cond, not, ◌||◌, T, List, [], ◌∷◌, IsErrAnd, Some, None, Ok, Err, Option, Result, sym, refl, ap, ◌∙◌, subst, arith}
+use Rattle.std.proofs.Common.{◌≡◌, ℕ, Bool, true, false, cond, T, List, [], ◌∷◌, IsErrAnd, Some, None, Ok, Err, Result, sym, refl, ap, ◌∙◌, subst, arith}
 use Rattle.std.proofs.lemmas.Result.{err_from_is_err_and}
 use Rattle.units.specs.declared.UnitSet.{UnitSet}
 use Rattle.units.specs.Has.{has}
-use Rattle.theory.specs.Maps.{Map, Sound, listed}
+use Rattle.theory.specs.Maps.{Map, Sound}
 use Rattle.theory.specs.Chains.{Heard, NoRing}
 use Rattle.theory.specs.Hearing.{is_heard}
 use Rattle.theory.specs.Ranks.{rank_in, Orders}
 use Rattle.theory.specs.Lists.{labels_changed}
 use Rattle.theory.specs.Changes.{Frame}
-use Rattle.theory.proofs.Tests.{passes}
 use Rattle.theory.proofs.Warshall.{heard-complete}
 use Rattle.labels.specs.declared.Labels.{Labels}
 use Rattle.labels.specs.Asked.{Kept}
 use Rattle.mending.specs.Mended.{Mended}
 use Rattle.plain.specs.declared.BookFault.{BookFault}
-use Rattle.plain.specs.Plain.{Plain, map_of}
-use Rattle.plain.specs.Requests.{Request, Check, first_cause, verdict, granted, step, unless}
+use Rattle.plain.specs.Plain.{map_of}
+use Rattle.plain.specs.Requests.{Request, Check, first_cause, verdict, granted, unless}
 use Rattle.book.specs.Views.{plain_by, Agrees}
 use Rattle.book.specs.Answers.{answered, alters, Applied}
 use Rattle.book.proofs.Agree.{Keeps, stored-by, agrees_at, plain_at}

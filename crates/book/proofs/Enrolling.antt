@@ -1,5 +1,5 @@
 -- Enrolling a unit: what the checks leave, and the change of the map and the order.
-use Rattle.std.proofs.Common.{◌≡◌, ℕ, suc, ◌+◌, ◌-◌, ◌<◌, ◌≤◌, Bool, true, false, not, ◌||◌, T, eqb, ◌⊎◌, List, [], ◌∷◌, ◌++◌, length, None, Ok, sym, refl, ap, ◌∙◌, subst, inl, inr, ⊎_elim, arith}
+use Rattle.std.proofs.Common.{◌≡◌, ℕ, ◌+◌, ◌-◌, ◌≤◌, Bool, true, false, not, ◌||◌, T, eqb, ◌⊎◌, List, ◌++◌, length, None, Ok, sym, refl, ap, ◌∙◌, subst, ⊎_elim, arith}
 use lib.Dec.{eqb_refl}
 use Rattle.std.proofs.lemmas.Bool.{or_parts, both_ways, eqb-false, ltb-false, false≢true}
 use Rattle.units.specs.declared.UnitSet.{UnitSet}
@@ -10,7 +10,7 @@ use Rattle.theory.specs.Hearing.{is_heard}
 use Rattle.theory.specs.Counts.{pair_count}
 use Rattle.theory.specs.Ranks.{inserted}
 use Rattle.theory.specs.Changes.{New}
-use Rattle.theory.proofs.Tests.{passes, passed, or_fst, or_snd}
+use Rattle.theory.proofs.Tests.{passed, or_fst, or_snd}
 use Rattle.theory.proofs.Lists.{listed-on}
 use Rattle.theory.proofs.Warshall.{heard-complete}
 use Rattle.theory.proofs.Enrols.{changes-sound, enrol_orders, enrol-area, enrol-frame}

@@ -1,7 +1,7 @@
 -- A load: the page is judged by itself, then the room for what it says; what is built is the lawful book that it says.
-use Rattle.std.proofs.Common.{◌≡◌, ℕ, ◌≤◌, Bool, true, false, cond, not, ltb, leb, List, [], ◌∷◌, ◌++◌, Some, None, Ok, Err, Option, Result, sym, refl, ap, ◌∙◌, subst, arith}
+use Rattle.std.proofs.Common.{◌≡◌, ℕ, Bool, true, false, cond, not, ltb, leb, List, [], ◌∷◌, ◌++◌, Some, None, sym, refl, ap, ◌∙◌, subst, arith}
 use Rattle.std.proofs.lemmas.Bool.{leb-true, leb-false, le-ltb, lt-ltb, not-false}
-use Rattle.theory.specs.Maps.{Map, Sound}
+use Rattle.theory.specs.Maps.{Map}
 use Rattle.theory.specs.Chains.{On}
 use Rattle.theory.specs.Counts.{pair_count}
 use Rattle.theory.specs.Ranks.{Orders}
@@ -15,12 +15,11 @@ use Rattle.plain.specs.declared.BookFault.{BookFault}
 use Rattle.plain.specs.declared.BookFault.TheVariants as fault
 use Rattle.plain.specs.Plain.{Plain, map_of, Lawful}
 use Rattle.plain.specs.Pages.{lawful_by_parts, page_units, page_book, has_ring}
-use Rattle.plain.specs.Requests.{Request, Load, Check, checks, first_cause, verdict, granted, step, unless, page_checks, too_many}
+use Rattle.plain.specs.Requests.{Load, Check, checks, first_cause, verdict, granted, step, unless, page_checks, too_many}
 use Rattle.page_laws.proofs.Parts.{lawful-parted, ring-looped}
 use Rattle.page_laws.proofs.Lawful.{parts}
 use Rattle.page_laws.proofs.Book.{page-order, page-lawful}
 use Rattle.book.specs.Views.{plain_by, Agrees}
-use Rattle.book.specs.Answers.{answered}
 use Rattle.book.proofs.Agree.{agrees_at, plain_at}
 use Rattle.book.proofs.Changing.{all-absent}
 use Rattle.book.proofs.Listing.{cause-first, cause-later}

@@ -1,5 +1,5 @@
 -- Dropping a unit and moving it in the order.
-use Rattle.std.proofs.Common.{◌≡◌, ℕ, ◌-◌, Bool, true, false, not, ◌||◌, T, eqb, List, [], ◌∷◌, None, Ok, sym, refl, ap, ◌∙◌, subst}
+use Rattle.std.proofs.Common.{◌≡◌, ℕ, ◌-◌, true, false, not, ◌||◌, eqb, List, [], ◌∷◌, None, Ok, sym, refl, subst}
 use Rattle.std.proofs.lemmas.Bool.{or_parts, not-false}
 use Rattle.units.specs.declared.UnitSet.{UnitSet}
 use Rattle.units.specs.Has.{has}
@@ -16,7 +16,7 @@ use Rattle.plain.specs.Requests.{Drop, Rank, checks, granted, first_cause, unkno
 use Rattle.book.specs.Views.{plain_by, Agrees}
 use Rattle.book.specs.Answers.{Applied}
 use Rattle.book.proofs.Agree.{Keeps}
-use Rattle.book.proofs.Changing.{AllAbsent, all-absent, in-set, changed}
+use Rattle.book.proofs.Changing.{all-absent, in-set, changed}
 use Rattle.book.proofs.Pairing.{in_order}
 
 -- what the check of a unit leaves: it is in the order

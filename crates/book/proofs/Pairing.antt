@@ -1,11 +1,11 @@
 -- Pairing and unpairing: what the checks leave, and the change of the map.
-use Rattle.std.proofs.Common.{◌≡◌, ℕ, ◌+◌, Bool, true, false, not, ◌||◌, T, ◌≢◌, List, [], ◌∷◌, None, Ok, sym, refl, ap, ◌∙◌, subst, arith}
+use Rattle.std.proofs.Common.{◌≡◌, ℕ, ◌+◌, true, false, not, ◌||◌, T, ◌≢◌, List, None, Ok, refl, ap, ◌∙◌, subst, arith}
 use Rattle.std.proofs.lemmas.Bool.{or_parts, not-false, both_ways, ltb-false, ne_eqb}
 use Rattle.maps.specs.Changes.{join_cause}
 use Rattle.theory.specs.Counts.{pair_count}
 use Rattle.units.specs.declared.UnitSet.{UnitSet}
 use Rattle.units.specs.Has.{has}
-use Rattle.theory.specs.Maps.{Map, Sound, listed, with_pair, without_pair}
+use Rattle.theory.specs.Maps.{Map, listed, with_pair, without_pair}
 use Rattle.theory.specs.Chains.{Heard}
 use Rattle.theory.specs.Hearing.{is_heard}
 use Rattle.theory.specs.Ranks.{Orders}
@@ -19,7 +19,7 @@ use Rattle.theory.proofs.Rings.{rings-kept-out}
 use Rattle.labels.specs.declared.Labels.{Labels}
 use Rattle.mending.specs.Mended.{Mended}
 use Rattle.plain.specs.Plain.{map_of, hears}
-use Rattle.plain.specs.Requests.{Pair, Unpair, checks, granted, first_cause, unknown, verdict, pair_checks, unpair_checks}
+use Rattle.plain.specs.Requests.{Pair, Unpair, checks, granted, first_cause, pair_checks, unpair_checks}
 use Rattle.book.specs.Views.{plain_by, Agrees}
 use Rattle.book.specs.Answers.{Applied}
 use Rattle.book.proofs.Agree.{Keeps, stored-by}

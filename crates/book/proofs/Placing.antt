@@ -1,5 +1,5 @@
 -- Best place: what its checks leave, and what it tells.
-use Rattle.std.proofs.Common.{◌≡◌, ℕ, ◌+◌, ◌-◌, ◌≤◌, Bool, false, cond, ◌||◌, eqb, ltb, List, [], ◌∷◌, length, IsErrAnd, Some, None, Ok, Err, Option, Result, sym, refl, ap, ◌∙◌, subst, arith}
+use Rattle.std.proofs.Common.{◌≡◌, ℕ, ◌+◌, ◌-◌, ◌≤◌, Bool, false, cond, ◌||◌, eqb, List, length, IsErrAnd, Some, None, Ok, Err, Result, sym, ap, ◌∙◌, subst, arith}
 use Rattle.std.proofs.lemmas.Result.{err_from_is_err_and}
 use Rattle.std.proofs.lemmas.Bool.{le-ltb}
 use Rattle.theory.specs.Maps.{Map, Sound, enrolled}
@@ -13,8 +13,8 @@ use Rattle.labels.specs.declared.Labels.{Labels}
 use Rattle.plain.specs.declared.BookFault.{BookFault}
 use Rattle.plain.specs.declared.BookFault.TheVariants as fault
 use Rattle.plain.specs.Plain.{map_of}
-use Rattle.plain.specs.Requests.{BestPlace, Enrol, Check, checks, granted, first_cause, enrol_checks, place_checks, partners, stands, verdict}
-use Rattle.plain.specs.Placing.{Best, best_from, best_told, total_at}
+use Rattle.plain.specs.Requests.{BestPlace, Enrol, checks, granted, first_cause, enrol_checks, place_checks, partners, stands, verdict}
+use Rattle.plain.specs.Placing.{best_from, best_told, total_at}
 use Rattle.plain.proofs.Placing.{Least, best-least}
 use Rattle.places.specs.declared.place.Place.{Place}
 use Rattle.places.specs.Trials.{told_of, trial}

@@ -1,5 +1,5 @@
 -- Reach: what its checks leave, and what it tells.
-use Rattle.std.proofs.Common.{◌≡◌, ℕ, ◌<◌, ◌≤◌, Bool, true, false, not, ◌||◌, eqb, ltb, ◌⊎◌, List, [], ◌∷◌, length, get_or, IfSome, IsErrAnd, Some, None, Ok, Err, Option, Result, sym, refl, ap, ◌∙◌, subst, inl, inr, ⊎_elim, arith}
+use Rattle.std.proofs.Common.{◌≡◌, ℕ, ◌≤◌, false, not, eqb, ltb, List, length, get_or, IfSome, IsErrAnd, Ok, Err, Option, Result, sym, subst, ⊎_elim, arith}
 use Rattle.std.proofs.lemmas.Result.{err_from_is_err_and}
 use Rattle.std.proofs.lemmas.Bool.{cases_lt, or_parts, both_ways, eqb-true, not-false, lt-ltb}
 use Rattle.theory.specs.Maps.{Map, hidden}
@@ -14,7 +14,7 @@ use Rattle.plain.specs.Requests.{Reach, checks, first_cause, reach_checks, verdi
 use Rattle.plain.specs.Reaching.{off, open_map, reach_told}
 use Rattle.plain.proofs.Some.{some-on}
 use Rattle.plain.proofs.Reaching.{reach-is}
-use Rattle.book.specs.Views.{plain_by, Agrees}
+use Rattle.book.specs.Views.{plain_by}
 use Rattle.book.specs.Answers.{answered}
 use Rattle.book.specs.Questions.{ByFewest}
 use Rattle.book.proofs.Answering.{no-cause, answered-ok, answered-err}

@@ -1,15 +1,14 @@
 -- A save: refused where the page does not fit from the place on; else the page stands there and the other bytes stay.
-use Rattle.std.proofs.Common.{◌≡◌, ℕ, ◌+◌, ◌-◌, ◌*◌, ◌≤◌, Bool, true, false, cond, not, ltb, leb, List, [], ◌∷◌, ◌++◌, length, take, drop, Some, None, Ok, Err, Result, sym, refl, ap, ◌∙◌, subst, arith}
+use Rattle.std.proofs.Common.{◌≡◌, ℕ, ◌+◌, ◌*◌, ◌≤◌, Bool, true, false, cond, not, ltb, leb, List, [], ◌∷◌, ◌++◌, length, take, drop, Some, None, Ok, Err, sym, ap, ◌∙◌}
 use borrow.Rule.Slice.PartMut.{put_mid}
 use Rattle.std.proofs.lemmas.List.{drop-drop}
 use Rattle.std.proofs.lemmas.Bool.{leb-true, leb-false, le-leb, le-ltb, lt-ltb}
 use Rattle.theory.specs.Counts.{pair_count}
-use Rattle.plain.specs.declared.BookFault.{BookFault}
 use Rattle.plain.specs.declared.BookFault.TheVariants as fault
 use Rattle.plain.specs.Plain.{Plain, map_of, Lawful}
 use Rattle.plain.specs.Saving.{saved_page}
 use Rattle.plain.specs.Pages.{page_book, has_ring_or_loop}
-use Rattle.plain.specs.Requests.{Save, Load, checks, first_cause, granted, verdict}
+use Rattle.plain.specs.Requests.{Save, checks, first_cause, granted, verdict}
 use Rattle.maps.specs.declared.fault.StoreFault.TheVariants.{Full}
 use Rattle.page_laws.proofs.Saved.{saved-length}
 use Rattle.page_laws.proofs.RoundTrip.{saved-reads-back}

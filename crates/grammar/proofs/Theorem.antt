@@ -1,9 +1,9 @@
 -- The reading of a line is right: it says what the line says, or the place where no lawful line could go on.
-use Rattle.std.proofs.Common.{◌≡◌, ℕ, suc, ◌+◌, ◌≤◌, Bool, true, false, cond, not, T, eqb, ◌⊎◌, List, [], ◌∷◌, ◌++◌, length, Ok, Err, decimal, Result, sym, refl, ap, ◌∙◌, subst, inl, inr, arith}
-use Rattle.std.proofs.lemmas.List.{append_assoc, append-nil}
+use Rattle.std.proofs.Common.{◌≡◌, ℕ, suc, ◌≤◌, Bool, true, false, cond, not, T, eqb, ◌⊎◌, List, [], ◌∷◌, ◌++◌, length, Ok, Err, decimal, Result, sym, refl, ap, ◌∙◌, subst, inl, inr, arith}
+use Rattle.std.proofs.lemmas.List.{append_assoc}
 use Rattle.std.proofs.lemmas.Bool.{eqb-true, eqb-false, eq-eqb, ne_eqb}
 use Rattle.grammar.specs.Grammar.{Said, Enrol, Drop, Pair, Unpair, Rank, Hear, IsName, letter, fields, spaced, written, Says, Lawful, Begins, MalformedAt, Right}
-use Rattle.grammar.specs.Reading.{Cut, name_run, number_run, value_after, name_field, number_field, next, ended, read_enrol, read_drop, read_rank, read_two, read_by, read}
+use Rattle.grammar.specs.Reading.{Cut, name_run, number_run, value_after, name_field, number_field, next, ended, read_enrol, read_two, read_by, read}
 use Rattle.grammar.specs.Theorems.{ReadingRight}
 use Rattle.grammar.proofs.Fields.{Kind, RightOn, Ended, ended-right, Fielded, field-right, field-only, Cuts, same, longer, shorter, cut-two, head-same, tail-same, no-cons}
 use Rattle.grammar.proofs.Texts.{name-kind, number-kind}

@@ -1,5 +1,5 @@
 -- A book that agrees with the plain book keeps the whole promise.
-use Rattle.std.proofs.Common.{◌≡◌, ℕ, T, ◌↔◌, List, ◌∷◌, ◌++◌, sym, refl, ap, ◌∙◌, subst}
+use Rattle.std.proofs.Common.{◌≡◌, ℕ, T, ◌↔◌, List, ◌∷◌, sym, ap, ◌∙◌, subst}
 use Rattle.theory.specs.Maps.{Map}
 use Rattle.theory.specs.Chains.{On}
 use Rattle.theory.specs.Ranks.{removed}

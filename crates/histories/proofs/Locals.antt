@@ -1,9 +1,9 @@
 -- A request alters only the labels that it may: the frames of the changes, between lawful books.
-use Rattle.std.proofs.Common.{◌≡◌, ℕ, ◌-◌, ◌≤◌, Bool, true, false, ◌&&◌, ◌||◌, T, eqb, ◌≢◌, ◌⊎◌, ◌↔◌, List, [], ◌∷◌, ◌++◌, Some, None, Option, sym, refl, ap, ◌∙◌, subst, inl, inr, ⊎_elim, arith, eqb→eq}
+use Rattle.std.proofs.Common.{◌≡◌, ℕ, ◌-◌, true, false, ◌&&◌, T, eqb, ◌≢◌, List, [], ◌∷◌, ◌++◌, Some, None, Option, sym, refl, ap, subst, inl, inr, ⊎_elim, eqb→eq}
 use Rattle.std.proofs.lemmas.Bool.{both_ways, eq-eqb}
 use Rattle.theory.specs.Maps.{Map, Sound, listed, with_pair, without_pair, without_unit, enrolled}
 use Rattle.theory.specs.Chains.{On, Heard}
-use Rattle.theory.specs.Ranks.{inserted, removed, moved, Orders}
+use Rattle.theory.specs.Ranks.{inserted, removed, moved}
 use Rattle.theory.specs.Changes.{Local, New}
 use Rattle.theory.proofs.Tests.{passes, passed, or_fst, or_snd, or-either, and_both}
 use Rattle.theory.proofs.Lists.{listed-on}
@@ -11,13 +11,12 @@ use Rattle.theory.proofs.Enrols.{drop_orders, enrol_orders, rank_orders}
 use Rattle.theory.proofs.Frames.{pair-area}
 use Rattle.theory.proofs.Local.{pair-local, unpair-local, drop_local, rank-local, enrol-local}
 use Rattle.plain.specs.declared.BookFault.{BookFault}
-use Rattle.plain.specs.Plain.{Plain, map_of, plain_by, Lawful}
+use Rattle.plain.specs.Plain.{Plain, map_of, Lawful}
 use Rattle.plain.specs.Requests.{Request, Make, Load, Enrol, Drop, Pair, Unpair, Rank, Hear, BestPlace, InLabels, OutLabels, InHolders, OutHolders, Reach, Save, checks, verdict, granted, step, run, unless, rank_checks, enrol_checks}
 use Rattle.book.proofs.Agree.{stored-by}
 use Rattle.book.proofs.Changing.{all-absent}
 use Rattle.book.proofs.Moving.{one_known}
-use Rattle.book.proofs.Pairing.{in_order}
-use Rattle.histories.specs.Alters.{Hears, ByUnit, ByPairing, AltersOnly, LawfulAlong}
+use Rattle.histories.specs.Alters.{ByUnit, ByPairing, AltersOnly, LawfulAlong}
 
 -- between larger sets, and to a map that goes by another term
 wider : (m : Map) (order : List ℕ) (n k : Map) (after : List ℕ) (A D B E : ℕ → Type 0) → Local m order n after A D → n ≡ k → ((u : ℕ) → A u → B u) → ((v : ℕ) → D v → E v) → Local m order k after B E

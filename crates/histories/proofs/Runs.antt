@@ -1,5 +1,5 @@
 -- One request more at the end of a list: the run, the replies, and the laws along it.
-use Rattle.std.proofs.Common.{◌≡◌, ℕ, List, [], ◌∷◌, ◌++◌, refl, ap, ◌∙◌}
+use Rattle.std.proofs.Common.{◌≡◌, ℕ, List, [], ◌∷◌, ◌++◌, refl, ap}
 use Rattle.plain.specs.Plain.{Plain, Lawful}
 use Rattle.plain.specs.Requests.{Request, step, run}
 use Rattle.histories.specs.Replies.{Reply, reply, replies}

@@ -1,10 +1,10 @@
 -- Calls that were played, and one call more.
 use Rattle.std.proofs.Common.{◌≡◌, ℕ, List, [], ◌∷◌, ◌++◌, map, sym, refl, ap, ◌∙◌, subst, append_assoc, append-nil}
 use Rattle.plain.specs.Plain.{Plain, Lawful}
-use Rattle.plain.specs.Requests.{Request, step, run}
-use Rattle.histories.specs.Replies.{Reply, reply, replies}
+use Rattle.plain.specs.Requests.{Request, run}
+use Rattle.histories.specs.Replies.{Reply, replies}
 use Rattle.histories.specs.Alters.{LawfulAlong}
-use Rattle.histories.proofs.Runs.{run-append, replies-append, along-append, along-last}
+use Rattle.histories.proofs.Runs.{run-append, replies-append, along-append}
 use Rattle.history.specs.declared.calls.Answer.{Answer}
 use Rattle.history.specs.Calls.{reply_of, Turned}
 use Rattle.history.specs.Played.{Played}

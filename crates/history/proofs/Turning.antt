@@ -1,5 +1,5 @@
 -- The answer to a call is the reply to its request, and the book is left as the request leaves it.
-use Rattle.std.proofs.Common.{◌≡◌, ℕ, ◌+◌, ◌*◌, ◌≤◌, Bool, true, false, cond, ltb, List, [], ◌∷◌, ◌++◌, length, take, drop, IfOk, Some, None, Ok, Err, Option, Result, sym, refl, ap, ◌∙◌, subst, arith, length-append}
+use Rattle.std.proofs.Common.{◌≡◌, ℕ, ◌+◌, ◌*◌, ◌≤◌, ltb, List, [], ◌∷◌, ◌++◌, length, take, drop, IfOk, Some, None, Ok, Option, Result, sym, refl, ap, ◌∙◌, subst, arith, length-append}
 use Rattle.std.proofs.lemmas.Bool.{ltb-false}
 use Rattle.std.proofs.lemmas.List.{take_at, drop_at, length-take-le}
 use Rattle.theory.specs.Counts.{pair_count}
@@ -10,7 +10,7 @@ use Rattle.plain.specs.Saving.{saved_page}
 use Rattle.plain.specs.Requests.{Request, Save, verdict, granted, step, unless, checks}
 use Rattle.book.proofs.Changing.{all-absent}
 use Rattle.book.specs.Answers.{answered, filled, placed, alters, Lists, Saves, Applied}
-use Rattle.histories.specs.Replies.{Reply, Written, Changed, Refused, reply, replied, told}
+use Rattle.histories.specs.Replies.{Reply, Written, Changed, replied, told}
 use Rattle.history.specs.declared.calls.Answer.{Answer}
 use Rattle.history.specs.Calls.{reply_of, part_written, change_told, Turned}
 

@@ -1,8 +1,8 @@
 -- A field as parts of a slice.
-use Rattle.std.proofs.Common.{◌≡◌, ℕ, ◌+◌, ◌-◌, Bool, true, false, cond, eqb, List, length, get_or, take, drop, Ok, Err, Result, sym, refl, ap, ◌∙◌, subst, arith}
+use Rattle.std.proofs.Common.{◌≡◌, ℕ, ◌+◌, ◌-◌, List, length, get_or, take, drop, Ok, Err, ap, ◌∙◌, subst}
 use Rattle.std.proofs.lemmas.List.{take_rest}
 use Rattle.std.proofs.lemmas.Bool.{eq-eqb, ne_eqb}
-use Rattle.grammar.specs.Reading.{Cut, field}
+use Rattle.grammar.specs.Reading.{field}
 
 module _ {A : Type 0} (run : List ℕ → ℕ) (make : List ℕ → A) (xs : List ℕ) (place : ℕ) (space : get_or xs 0 0 ≡ 32) where
   -- what follows the space, as the slice pattern has it

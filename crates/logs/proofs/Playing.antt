@@ -1,5 +1,5 @@
 -- A log is played line by line: what was written and what is left so far are those of the lines done.
-use Rattle.std.proofs.Common.{◌≡◌, ℕ, ◌-◌, ◌<◌, ◌≤◌, Bool, true, false, cond, List, [], ◌∷◌, ◌++◌, length, take, drop, is_err, Ok, Err, Result, sym, refl, ap, ◌∙◌, arith}
+use Rattle.std.proofs.Common.{◌≡◌, ℕ, ◌<◌, true, List, [], ◌∷◌, ◌++◌, length, take, drop, is_err, Ok, Err, Result, sym, refl, ap, ◌∙◌}
 use Rattle.std.proofs.lemmas.List.{append_assoc, append-nil, take_at}
 use Rattle.std.proofs.lemmas.Bool.{false≢true}
 use Rattle.lines.specs.Texts.{first_line, after_line}
@@ -8,7 +8,7 @@ use Rattle.plain_named.specs.Named.{Named}
 use Rattle.plain_named.specs.Replies.{answer, after}
 use Rattle.plain_named.specs.Logs.{lines_of, answers, after_all}
 use Rattle.plain_named.proofs.Cutting.{cut, cut-none, answers-more, after_more}
-use Rattle.logs.specs.Plays.{Played, Stopped, Outcome}
+use Rattle.logs.specs.Plays.{Played, Outcome}
 
 -- some lines are done; they and the lines of the rest are those of the log
 abbrev pub SoFar : ℕ → Named → (log before rest : List ℕ) → Named → List ℕ → Type 0

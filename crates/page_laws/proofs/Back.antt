@@ -1,16 +1,14 @@
 -- A page that was written reads back: by its records the chains are the numbers in a row.
-use Rattle.std.proofs.Common.{◌≡◌, ℕ, zero, suc, ◌+◌, ◌-◌, ◌*◌, ◌<◌, ◌≤◌, Bool, true, false, ◌&&◌, ◌||◌, T, eqb, ◌≢◌, ◌⊎◌, List, [], ◌∷◌, ◌++◌, length, sym, refl, ap, ◌∙◌, subst, inl, inr, ⊎_elim, arith}
+use Rattle.std.proofs.Common.{◌≡◌, ℕ, zero, suc, ◌+◌, ◌<◌, ◌≤◌, Bool, ◌&&◌, ◌||◌, eqb, List, [], ◌∷◌, ◌++◌, length, sym, refl, ap, ◌∙◌, subst, inl, inr, ⊎_elim, arith}
 use Rattle.std.proofs.lemmas.Bool.{cases_eq, cases_lt}
 use Rattle.theory.specs.Maps.{listed}
 use Rattle.theory.specs.Chains.{On}
-use Rattle.theory.specs.Ranks.{Once}
-use Rattle.theory.specs.Lists.{picked, sum}
-use Rattle.theory.proofs.Lists.{once-picked}
+use Rattle.theory.specs.Lists.{sum}
 use Rattle.plain.specs.Lists.{some, numbers, each}
 use Rattle.plain.specs.Pages.{record_count, unit_in, first_of, listener_in, next_of, chain, unit_chain, chains}
 use Rattle.plain.specs.Saving.{ascending, next_index}
 use Rattle.page_laws.specs.Pairs.{by_unit}
-use Rattle.page_laws.proofs.Numbers.{numbers-split, once-numbers}
+use Rattle.page_laws.proofs.Numbers.{numbers-split}
 use Rattle.page_laws.proofs.Follow.{chain_next, chain-end}
 use Rattle.page_laws.proofs.Stored.{Links, AllLinks, Heads}
 

@@ -1,21 +1,21 @@
 -- What a lawful page says is a plain book: its pairings lead between its units, and without a ring it is lawful.
-use Rattle.std.proofs.Common.{◌≡◌, ℕ, zero, suc, ◌<◌, ◌≤◌, Bool, true, false, cond, ◌&&◌, ◌||◌, T, eqb, ◌≢◌, ◌⊎◌, List, [], ◌∷◌, sym, refl, ap, ◌∙◌, subst, inl, inr, ⊎_elim, arith, eqb→eq}
+use Rattle.std.proofs.Common.{◌≡◌, ℕ, zero, suc, ◌<◌, ◌≤◌, Bool, true, false, cond, ◌||◌, T, eqb, ◌≢◌, ◌⊎◌, List, [], ◌∷◌, sym, refl, subst, inl, inr, ⊎_elim, arith, eqb→eq}
 use Rattle.std.proofs.lemmas.Bool.{cases_eq, eq-eqb, ne_eqb, both_ways}
-use Rattle.theory.specs.Maps.{Map, Sound, listed}
-use Rattle.theory.specs.Chains.{On, Heard, NoRing}
+use Rattle.theory.specs.Maps.{Sound}
+use Rattle.theory.specs.Chains.{On}
 use Rattle.theory.specs.Hearing.{is_heard}
-use Rattle.theory.specs.Ranks.{Once, Orders}
+use Rattle.theory.specs.Ranks.{Orders}
 use Rattle.theory.proofs.Tests.{and-fst, and-snd, and_both, or-either, or_fst, or_snd, passes, passed, same_tests}
 use Rattle.theory.proofs.Lists.{listed-on}
 use Rattle.theory.proofs.Warshall.{heard-complete}
 use Rattle.theory.proofs.Rings.{rings-kept-out}
-use Rattle.plain.specs.Lists.{some, numbers, each}
-use Rattle.plain.specs.Plain.{Plain, map_of, Lawful}
+use Rattle.plain.specs.Lists.{numbers, each}
+use Rattle.plain.specs.Plain.{map_of, Lawful}
 use Rattle.plain.specs.Pages.{unit_count, record_count, unit_in, first_of, listener_in, next_of, page_units, chain, unit_chain, page_book, has_ring_or_loop}
 use Rattle.plain.proofs.Some.{some-on}
-use Rattle.page_laws.specs.Parts.{Right, Parts}
-use Rattle.page_laws.specs.Pairs.{by_unit, paired_by}
-use Rattle.page_laws.proofs.Numbers.{on-numbers, on-each}
+use Rattle.page_laws.specs.Parts.{Parts}
+use Rattle.page_laws.specs.Pairs.{by_unit}
+use Rattle.page_laws.proofs.Numbers.{on-numbers}
 use Rattle.page_laws.proofs.Units.{unit-on}
 use Rattle.page_laws.proofs.Rows.{paired-all}
 

@@ -4,12 +4,12 @@ use Rattle.std.proofs.lemmas.Bool.{eq-eqb}
 use Rattle.theory.specs.Maps.{Map, Sound}
 use Rattle.theory.specs.Chains.{On}
 use Rattle.theory.specs.Hearing.{is_heard}
-use Rattle.theory.proofs.Tests.{or_fst, or_snd, passes, passed, same_tests}
+use Rattle.theory.proofs.Tests.{or_fst, or_snd, passes, same_tests}
 use Rattle.plain.specs.declared.BookFault.{BookFault}
 use Rattle.plain.specs.declared.BookFault.TheVariants as fault
 use Rattle.plain.specs.Lists.{some}
 use Rattle.plain.specs.Plain.{map_of}
-use Rattle.plain.specs.Pages.{lawful_by_parts, page_units, page_book, has_ring_or_loop}
+use Rattle.plain.specs.Pages.{page_units, page_book, has_ring_or_loop}
 use Rattle.plain.specs.Requests.{first_cause, page_checks}
 use Rattle.plain.proofs.Some.{some-on}
 use Rattle.page_laws.specs.Parts.{Parts}

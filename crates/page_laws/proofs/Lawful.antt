@@ -1,13 +1,13 @@
 -- The test of lawful pages and its facts: each part of the test is one fact.
-use Rattle.std.proofs.Common.{◌≡◌, ℕ, ◌+◌, ◌*◌, ◌<◌, ◌≤◌, Bool, true, false, not, ◌&&◌, T, eqb, leb, ◌↔◌, List, length, get_or, sym, refl, subst, arith}
+use Rattle.std.proofs.Common.{◌≡◌, ℕ, ◌+◌, ◌*◌, ◌≤◌, Bool, true, false, not, ◌&&◌, T, eqb, leb, List, length, get_or, refl, arith}
 use Rattle.std.proofs.lemmas.Bool.{leb-true, le-leb, and_parts}
 use Rattle.theory.specs.Maps.{listed}
 use Rattle.theory.specs.Chains.{On}
 use Rattle.theory.proofs.Tests.{and-fst, and-snd, and_both, passes, passed, differ, differs}
 use Rattle.theory.proofs.Lists.{listed-on}
 use Rattle.plain.specs.Lists.{every, doubled, numbers, each}
-use Rattle.plain.specs.Pages.{has_form, units_right, records_right, firsts_right, chains_right, listeners_right, lawful_by_parts, unit_count, record_count, first_of, listener_in, next_of, page_units, unit_chain, chains}
-use Rattle.page_laws.specs.Parts.{Right, Parts}
+use Rattle.plain.specs.Pages.{has_form, units_right, records_right, firsts_right, chains_right, lawful_by_parts, unit_count, record_count, first_of, listener_in, next_of, page_units, unit_chain, chains}
+use Rattle.page_laws.specs.Parts.{Parts}
 use Rattle.page_laws.proofs.Numbers.{every-on, once-doubled, on-numbers}
 
 pub parts : (page : List ℕ) → lawful_by_parts page ≡ true → Parts page

@@ -42,15 +42,15 @@ pub lawful-parted : (page : List ℕ) → lawful_page page ≡ lawful_by_parts p
 unfolding lawful_page lawful_by_parts
 lawful-parted page =
     parted (leb 4 (length page)) (length page == 4 + 3 * unit_count page + 3 * record_count page) (get_or page 0 0 == 1) (leb (record_count page) 8000)
-        (every (λ u. not (u == 0)) (page_units page)) (not (doubled (page_units page)))
-        (every (λ r. listed (listener_in page r) (page_units page)) (numbers 1 (record_count page)))
-        (every (λ i. leb (first_of page i) (record_count page)) (numbers 0 (unit_count page)))
-        (every (λ r. leb (next_of page r) (record_count page)) (numbers 1 (record_count page)))
-        (every (λ r. listed r (chains page (numbers 0 (unit_count page)))) (numbers 1 (record_count page)))
-        (not (doubled (chains page (numbers 0 (unit_count page)))))
-        (every (λ i. not (doubled (each (listener_in page) (unit_chain page i)))) (numbers 0 (unit_count page)))
+    (every (λ u. not (u == 0)) (page_units page)) (not (doubled (page_units page)))
+    (every (λ r. listed (listener_in page r) (page_units page)) (numbers 1 (record_count page)))
+    (every (λ i. leb (first_of page i) (record_count page)) (numbers 0 (unit_count page)))
+    (every (λ r. leb (next_of page r) (record_count page)) (numbers 1 (record_count page)))
+    (every (λ r. listed r (chains page (numbers 0 (unit_count page)))) (numbers 1 (record_count page)))
+    (not (doubled (chains page (numbers 0 (unit_count page)))))
+    (every (λ i. not (doubled (each (listener_in page) (unit_chain page i)))) (numbers 0 (unit_count page)))
     ∙ ap (λ (b : Bool). has_form page && (units_right page && (b && (firsts_right page && (chains_right page && listeners_right page)))))
-        (sym (every-both (λ r. listed (listener_in page r) (page_units page)) (λ r. leb (next_of page r) (record_count page)) (numbers 1 (record_count page))))
+    (sym (every-both (λ r. listed (listener_in page r) (page_units page)) (λ r. leb (next_of page r) (record_count page)) (numbers 1 (record_count page))))
 
 -- a unit that stands hears itself, in every map
 reach-self : (m : Map) (k a : ℕ) → m.unit a ≡ true → reach m k a a ≡ true

@@ -1,30 +1,30 @@
 -- A saved page is lawful and says the book that was saved.
-use Rattle.std.proofs.Common.{◌≡◌, ℕ, zero, suc, ◌+◌, ◌-◌, ◌*◌, ◌<◌, ◌≤◌, Bool, true, false, ◌&&◌, T, eqb, leb, ◌↔◌, List, [], ◌∷◌, ◌++◌, length, get_or, sym, refl, ap, ◌∙◌, subst, inl, inr, ⊎_elim, append_assoc, append-nil, arith, eqb→eq, length-append}
+use Rattle.std.proofs.Common.{◌≡◌, ℕ, suc, ◌+◌, ◌*◌, ◌<◌, ◌≤◌, Bool, true, false, ◌&&◌, T, eqb, List, [], ◌++◌, length, get_or, sym, refl, ap, ◌∙◌, subst, ⊎_elim, append_assoc, append-nil, arith, eqb→eq, length-append}
 use native.Mathlib.Nat.{mod-add-div}
 use Rattle.std.proofs.lemmas.Bool.{le-leb, eq-eqb, and_from}
-use Rattle.theory.specs.Maps.{Map, Sound, listed}
+use Rattle.theory.specs.Maps.{listed}
 use Rattle.theory.specs.Chains.{On}
 use Rattle.theory.specs.Counts.{pair_count}
-use Rattle.theory.specs.Ranks.{Once, Orders}
-use Rattle.theory.specs.Lists.{picked, sum}
-use Rattle.theory.proofs.Tests.{passes, passed, same_tests, and-fst, and-snd, and_both, or-either}
+use Rattle.theory.specs.Ranks.{Once}
+use Rattle.theory.specs.Lists.{sum}
+use Rattle.theory.proofs.Tests.{passes, same_tests, and-fst, and-snd, and_both, or-either}
 use Rattle.theory.proofs.Warshall.{heard-sound}
 use Rattle.theory.proofs.Rings.{rings-kept-out}
 use Rattle.theory.proofs.Lists.{listed-on, on-picked, once-picked}
 use Rattle.plain.specs.Lists.{some, numbers, each}
 use Rattle.plain.specs.Plain.{Plain, map_of, Lawful}
-use Rattle.plain.specs.Pages.{word, has_form, lawful_by_parts, unit_count, record_count, unit_in, listener_in, next_of, page_units, unit_chain, chains, page_book, has_ring_or_loop}
+use Rattle.plain.specs.Pages.{word, has_form, unit_count, record_count, unit_in, listener_in, page_units, chains, page_book, has_ring_or_loop}
 use Rattle.plain.specs.Saving.{ascending, head_bytes, unit_bytes, pairing_bytes, saved_page}
 use Rattle.plain.proofs.Some.{some-on}
 use Rattle.page_laws.specs.Parts.{Right, Parts}
 use Rattle.page_laws.specs.Pairs.{paired_by}
-use Rattle.page_laws.specs.Theorems.{ReadsBack, SavedReadsBack}
+use Rattle.page_laws.specs.Theorems.{SavedReadsBack}
 use Rattle.page_laws.proofs.Numbers.{on-numbers, once-numbers}
 use Rattle.page_laws.proofs.Lawful.{lawful}
 use Rattle.page_laws.proofs.Units.{units-all}
 use Rattle.page_laws.proofs.Rows.{paired-all}
 use Rattle.page_laws.proofs.Book.{page-order}
-use Rattle.page_laws.proofs.Sums.{listeners-sum, order-few}
+use Rattle.page_laws.proofs.Sums.{listeners-sum}
 use Rattle.page_laws.proofs.Saved.{saved-length}
 use Rattle.page_laws.proofs.Writing.{length-units}
 use Rattle.page_laws.proofs.Stored.{Heads, AllLinks, heads-stored, all-links-stored}

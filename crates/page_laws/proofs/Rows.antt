@@ -1,5 +1,5 @@
 -- The pairings of a page grow by the chain of one unit more; with all records seen the page is lawful.
-use Rattle.std.proofs.Common.{◌≡◌, ℕ, zero, suc, ◌+◌, ◌<◌, ◌≤◌, Bool, true, false, cond, ◌&&◌, ◌||◌, T, eqb, ◌⊎◌, List, [], ◌∷◌, ◌++◌, get_or, sym, refl, ap, ◌∙◌, subst, inl, inr, arith, eqb→eq}
+use Rattle.std.proofs.Common.{◌≡◌, ℕ, suc, ◌+◌, ◌<◌, ◌≤◌, Bool, true, false, cond, ◌&&◌, ◌||◌, T, eqb, ◌⊎◌, List, [], ◌∷◌, get_or, sym, refl, ap, ◌∙◌, subst, inl, inr, arith, eqb→eq}
 use Rattle.std.proofs.lemmas.Bool.{cases_eq, eq-eqb, ne_eqb, both_ways}
 use Rattle.theory.specs.Maps.{listed}
 use Rattle.theory.specs.Chains.{On}
@@ -9,9 +9,8 @@ use Rattle.theory.proofs.Lists.{listed-on}
 use Rattle.theory.proofs.Distinct.{on-from-listed}
 use Rattle.plain.specs.Lists.{some, every, numbers, each}
 use Rattle.plain.specs.Pages.{has_form, unit_count, record_count, unit_in, listener_in, page_units, unit_chain, chains, page_book}
-use Rattle.plain.specs.Plain.{Plain}
 use Rattle.plain.proofs.Some.{some-on, some-append}
-use Rattle.page_laws.specs.Parts.{Right, Parts, Marked, Followed}
+use Rattle.page_laws.specs.Parts.{Parts, Followed}
 use Rattle.page_laws.specs.Pairs.{by_unit, paired_by}
 use Rattle.page_laws.proofs.Numbers.{every-on, on-numbers, numbers_more, on-each}
 use Rattle.page_laws.proofs.Units.{front, unit-twice}

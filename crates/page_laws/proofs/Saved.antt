@@ -1,11 +1,10 @@
 -- How long a saved page is.
-use Rattle.std.proofs.Common.{◌≡◌, ℕ, ◌+◌, ◌*◌, List, ◌++◌, length, sym, refl, ap, ◌∙◌, arith, length-append}
+use Rattle.std.proofs.Common.{◌≡◌, ◌+◌, ◌*◌, ◌++◌, length, arith, length-append}
 use Rattle.theory.specs.Maps.{Sound}
 use Rattle.theory.specs.Counts.{pair_count}
-use Rattle.theory.specs.Lists.{sum}
 use Rattle.theory.specs.Ranks.{Orders}
 use Rattle.plain.specs.Plain.{Plain, map_of}
-use Rattle.plain.specs.Saving.{ascending, head_bytes, unit_bytes, pairing_bytes, saved_page}
+use Rattle.plain.specs.Saving.{head_bytes, unit_bytes, pairing_bytes, saved_page}
 use Rattle.page_laws.proofs.Sums.{listeners-sum}
 use Rattle.page_laws.proofs.Writing.{length-units, length-pairings}
 

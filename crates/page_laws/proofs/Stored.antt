@@ -1,5 +1,5 @@
 -- The records of a page by their places: what stands where in the bytes of a page that was written.
-use Rattle.std.proofs.Common.{◌≡◌, ℕ, zero, suc, ◌+◌, ◌-◌, ◌*◌, ◌/◌, ◌%◌, ◌<◌, ◌≤◌, Bool, List, [], ◌∷◌, ◌++◌, length, get_or, sym, refl, ap, ◌∙◌, subst, append_assoc, arith, length-append}
+use Rattle.std.proofs.Common.{◌≡◌, ℕ, suc, ◌+◌, ◌-◌, ◌*◌, ◌/◌, ◌%◌, ◌≤◌, Bool, List, [], ◌∷◌, ◌++◌, length, get_or, sym, ap, ◌∙◌, append_assoc, arith, length-append}
 use native.Mathlib.Nat.{mod-add-div}
 use Rattle.std.proofs.lemmas.List.{get_or-append-add}
 use Rattle.plain.specs.Pages.{word, unit_count, unit_in, first_of, listener_in, next_of}

@@ -4,7 +4,7 @@ use Rattle.theory.specs.Maps.{listed}
 use Rattle.theory.specs.Chains.{On}
 use Rattle.theory.specs.Ranks.{Once}
 use Rattle.plain.specs.Lists.{numbers, each}
-use Rattle.plain.specs.Pages.{has_form, unit_count, record_count, unit_in, first_of, listener_in, next_of, page_units, unit_chain, chains}
+use Rattle.plain.specs.Pages.{has_form, unit_count, record_count, first_of, listener_in, next_of, page_units, unit_chain, chains}
 
 -- A pairing record of the page whose listener is a unit of it, and whose next index is no greater than there are records.
 pub record Right (page : List ℕ) (r : ℕ) : Type 0 where

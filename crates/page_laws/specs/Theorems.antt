@@ -1,5 +1,5 @@
 -- What is proved of saved pages.
-use Rattle.std.specs.Prelude.{◌≡◌, ℕ, ◌≤◌, true, false}
+use Rattle.std.specs.Prelude.{◌≡◌, ◌≤◌, true, false}
 use Rattle.theory.specs.Counts.{pair_count}
 use Rattle.plain.specs.Plain.{Plain, map_of, Lawful}
 use Rattle.plain.specs.Pages.{lawful_by_parts, page_book, has_ring_or_loop}

@@ -1,10 +1,9 @@
 -- A yes to a question is a chain of pairings between the two units that have the names, and a no that there is none.
-use Rattle.std.proofs.Common.{◌≡◌, ℕ, suc, ◌+◌, Bool, true, false, List, length, Some, None, Ok, Err, Option, Result, sym, refl, ap, ◌∙◌, arith}
+use Rattle.std.proofs.Common.{◌≡◌, ℕ, suc, ◌+◌, Bool, List, length, Some, None, Ok, Err, Option, Result, sym, refl, ap, ◌∙◌, arith}
 use Rattle.std.proofs.lemmas.Option.{MatchOption-at_some}
 use Rattle.std.proofs.lemmas.Bool.{both_ways}
 use Rattle.grammar.specs.Grammar.{Said}
 use Rattle.grammar.specs.Grammar as said
-use Rattle.names.specs.declared.fault.NameFault.{NameFault}
 use Rattle.names.specs.Names.{unit_named, found_at}
 use Rattle.names.proofs.Finding.{holder}
 use Rattle.theory.specs.Maps.{Sound}
@@ -15,10 +14,10 @@ use Rattle.plain.specs.Plain.{map_of, hears}
 use Rattle.plain.specs.Requests.{verdict}
 use Rattle.plain.specs.Requests as request
 use Rattle.answers.specs.declared.Told.{Told}
-use Rattle.answers.specs.declared.Told.TheVariants.{Changed, Heard}
+use Rattle.answers.specs.declared.Told.TheVariants.{Heard}
 use Rattle.answers.specs.declared.fault.LineFault.{LineFault}
 use Rattle.plain_named.specs.Named.{Named, WellNamed}
-use Rattle.plain_named.specs.Lines.{Asked, Hear, asked, next}
+use Rattle.plain_named.specs.Lines.{Hear, asked, next}
 use Rattle.plain_named.specs.Replies.{replied, reply, reply_to, placed, reply_to_read}
 use Rattle.plain_named.specs.Calls.{Hearing, ToldByChains}
 

@@ -1,12 +1,12 @@
 -- A unit that is found by its name stands, so the book does not refuse it as unknown.
-use Rattle.std.proofs.Common.{◌≡◌, ℕ, ◌+◌, Bool, true, false, cond, not, ◌||◌, ◌⊎◌, List, [], ◌∷◌, ◌++◌, length, is_some, Some, None, Ok, Err, Option, Result, sym, refl, ap, ◌∙◌, subst, inl, inr, arith, MatchOption}
+use Rattle.std.proofs.Common.{◌≡◌, ℕ, Bool, true, false, not, ◌||◌, ◌⊎◌, List, [], ◌∷◌, is_some, Some, None, Ok, Err, Option, Result, sym, refl, ap, ◌∙◌, subst, inl, inr, arith}
 use Rattle.std.proofs.lemmas.Bool.{true≢false}
 use Rattle.std.proofs.lemmas.Option.{MatchOption-at_some}
 use Rattle.grammar.specs.Grammar.{Said}
 use Rattle.grammar.specs.Grammar as said
 use Rattle.grammar.specs.Reading.{read}
 use Rattle.names.specs.declared.fault.NameFault.{NameFault}
-use Rattle.names.specs.Names.{Names, unit_named, found_at, free_at}
+use Rattle.names.specs.Names.{unit_named, found_at, free_at}
 use Rattle.names.proofs.Finding.{holder}
 use Rattle.plain.specs.declared.BookFault.{BookFault}
 use Rattle.plain.specs.declared.BookFault.TheVariants as fault
@@ -14,7 +14,7 @@ use Rattle.plain.specs.Plain.{Plain}
 use Rattle.plain.specs.Requests.{Check, stands, verdict, checks, first_cause}
 use Rattle.answers.specs.declared.Told.{Told}
 use Rattle.answers.specs.declared.fault.LineFault.{LineFault}
-use Rattle.answers.specs.declared.fault.LineFault.TheVariants.{Form, Name, Book}
+use Rattle.answers.specs.declared.fault.LineFault.TheVariants.{Form, Book}
 use Rattle.answers.specs.declared.fault.Refusal.{Refusal}
 use Rattle.plain_named.specs.Named.{Named, WellNamed}
 use Rattle.plain_named.specs.Lines.{Asked, Enrol, Drop, Pair, Unpair, Rank, Hear, asked, next, request_of}

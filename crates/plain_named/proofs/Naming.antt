@@ -1,6 +1,6 @@
 -- After every line a number has a name exactly while its unit stands, and no two have the same.
-use Rattle.std.proofs.Common.{◌≡◌, ℕ, zero, suc, ◌-◌, ◌≤◌, Bool, true, false, cond, not, ◌&&◌, ◌||◌, eqb, ◌⊎◌, List, [], ◌∷◌, length, is_some, Some, None, Ok, Err, Option, Result, sym, refl, ap, ◌∙◌, subst, inl, inr, arith, MatchOption}
-use Rattle.std.proofs.lemmas.Bool.{eqb-true, eqb-false, eq-eqb, ne_eqb, cases_eq, cases_Bool, cond-true, cond-false, or_parts, not-false, false≢true}
+use Rattle.std.proofs.Common.{◌≡◌, ℕ, ◌-◌, ◌≤◌, Bool, true, false, not, ◌&&◌, ◌||◌, eqb, ◌⊎◌, List, [], ◌∷◌, length, is_some, Some, None, Ok, Err, Option, Result, sym, refl, ap, ◌∙◌, subst, inl, inr, arith, MatchOption}
+use Rattle.std.proofs.lemmas.Bool.{eq-eqb, ne_eqb, cases_eq, cond-true, cond-false, or_parts, not-false}
 use Rattle.grammar.specs.Grammar.{Said, IsName, fields, LawfulFields, Right}
 use Rattle.grammar.proofs.Theorem.{reading-right}
 use Rattle.grammar.specs.Grammar as said
@@ -10,10 +10,9 @@ use Rattle.names.specs.Names.{Names, renamed, unit_named, found_at, free_at}
 use Rattle.names.proofs.Finding.{holder}
 use Rattle.theory.specs.Maps.{listed}
 use Rattle.plain.specs.declared.BookFault.{BookFault}
-use Rattle.plain.specs.Plain.{Plain, empty}
 use Rattle.plain.specs.Requests.{Check, stands, unknown, no_rank, granted, verdict, checks, first_cause}
 use Rattle.plain_named.specs.Named.{Named, nobody, WellNamed}
-use Rattle.plain_named.specs.Lines.{Asked, Enrol, Drop, Pair, Unpair, Rank, Hear, asked, of_one, of_two, next, place, request_of, names_after}
+use Rattle.plain_named.specs.Lines.{Asked, Enrol, Drop, Pair, Unpair, Rank, Hear, asked, next, request_of, names_after}
 use Rattle.plain_named.specs.Replies.{unless, left_by, left_by_read, left, after}
 use Rattle.plain_named.proofs.Orders.{listed-inserted, listed-removed, listed-moved}
 

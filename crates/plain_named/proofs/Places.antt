@@ -1,5 +1,5 @@
 -- Every field of a lawful line begins at place 36 or before, and so does what is malformed.
-use Rattle.std.proofs.Common.{◌≡◌, ℕ, zero, suc, ◌+◌, ◌<◌, ◌≤◌, List, [], ◌∷◌, ◌++◌, length, get_or, Some, None, Ok, Err, decimal, Option, Result, sym, refl, ap, ◌∙◌, subst, arith}
+use Rattle.std.proofs.Common.{◌≡◌, ℕ, zero, suc, ◌<◌, ◌≤◌, List, [], ◌∷◌, ◌++◌, length, get_or, Some, None, Ok, Err, decimal, Option, Result, refl, ap, ◌∙◌, subst, arith}
 use Rattle.std.proofs.lemmas.List.{length-append, append_assoc}
 use Rattle.std.proofs.lemmas.Fmt.{length-decimal-le}
 use Rattle.grammar.specs.Grammar.{Said, Field, Number, Name as NameField, text, fields, letter, spaced, written, LawfulField, LawfulFields, Right, Says, MalformedAt}
@@ -14,13 +14,11 @@ use Rattle.plain.specs.declared.BookFault.{BookFault}
 use Rattle.plain.specs.declared.BookFault.TheVariants as book
 use Rattle.plain.specs.Requests.{verdict}
 use Rattle.answers.specs.declared.Told.{Told}
-use Rattle.answers.specs.declared.fault.LineFault.{LineFault}
-use Rattle.answers.specs.declared.fault.LineFault.TheVariants.{Form, Name, Book}
 use Rattle.answers.specs.Texts.{Near}
 use Rattle.plain_named.specs.Named.{Named}
 use Rattle.plain_named.specs.Theorems.{FieldAt}
 use Rattle.plain_named.specs.Lines.{Asked, asked, next, begins, place, request_of}
-use Rattle.plain_named.specs.Replies.{tells, replied, reply, reply_to, fault_place, fault_field, placed, reply_to_read, line_reply}
+use Rattle.plain_named.specs.Replies.{tells, replied, reply, reply_to, fault_field, placed, reply_to_read, line_reply}
 
 -- a number has at most three digits, and a name at most 16 bytes
 pub digits-few : (n : ℕ) → n ≤ 255 → length (decimal n) ≤ 3

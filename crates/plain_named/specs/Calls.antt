@@ -1,5 +1,5 @@
 -- What the calls of a named book answer and leave.
-use Rattle.std.specs.Prelude.{◌≡◌, ℕ, ◌+◌, Bool, true, false, cond, List, [], ◌∷◌, ◌++◌, length, drop, Some, Ok, Err, Option, Result, nat_lt}
+use Rattle.std.specs.Prelude.{◌≡◌, ℕ, ◌+◌, Bool, true, false, cond, List, ◌++◌, length, drop, Some, Ok, Err, Option, Result, nat_lt}
 use Rattle.grammar.specs.Grammar.{Said}
 use Rattle.grammar.specs.Grammar as said
 use Rattle.grammar.specs.Reading.{read}
@@ -10,7 +10,7 @@ use Rattle.names.specs.Names.{Names, unit_named, found_at}
 use Rattle.plain.specs.declared.BookFault.{BookFault}
 use Rattle.plain.specs.declared.BookFault.TheVariants.{ShortBuffer}
 use Rattle.answers.specs.declared.Told.{Told}
-use Rattle.answers.specs.declared.Told.TheVariants.{Changed, Heard}
+use Rattle.answers.specs.declared.Told.TheVariants.{Heard}
 use Rattle.answers.specs.declared.fault.LineFault.{LineFault}
 use Rattle.answers.specs.declared.fault.LineFault.TheVariants.{Book}
 use Rattle.plain_named.specs.Named.{Named}

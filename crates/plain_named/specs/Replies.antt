@@ -1,5 +1,5 @@
 -- What a named book replies to a line, and what the line leaves of it.
-use Rattle.std.specs.Prelude.{◌≡◌, ℕ, List, Some, None, Ok, Err, Option, Result}
+use Rattle.std.specs.Prelude.{ℕ, List, Some, None, Ok, Err, Option, Result}
 use Rattle.grammar.specs.Grammar.{Said}
 use Rattle.grammar.specs.Grammar as said
 use Rattle.grammar.specs.Reading.{read}

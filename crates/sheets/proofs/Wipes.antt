@@ -1,5 +1,5 @@
 -- What wiping leaves of a clean sheet and of one more mark, and what a clean sheet says.
-use Rattle.std.proofs.Common.{◌≡◌, ℕ, ◌+◌, ◌-◌, ◌%◌, ◌<◌, ◌≤◌, Bool, false, ◌&&◌, leb, ◌⊎◌, List, map, length, get_or, set, Option, sym, refl, ap, ◌∙◌, subst, inl, inr, arith}
+use Rattle.std.proofs.Common.{◌≡◌, ℕ, ◌-◌, ◌%◌, ◌<◌, ◌≤◌, Bool, false, ◌&&◌, leb, ◌⊎◌, List, length, get_or, set, Option, sym, ap, ◌∙◌, subst, inl, inr, arith}
 use Rattle.std.proofs.lemmas.Bool.{cases_lt, le-leb, lt-leb, ne_eqb, and_left, and_right}
 use Rattle.std.proofs.lemmas.List.{length-map, get_or-map, get_or_past, ext_get_or, map-set, set-get_or}
 use Rattle.theory.specs.Maps.{Map, hidden}

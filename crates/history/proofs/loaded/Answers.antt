@@ -1,4 +1,4 @@
-use Rattle.std.proofs.Common.{◌≡◌, [], ◌∷◌, vec_items, sym, refl, ap, ◌∙◌, subst}
+use Rattle.std.proofs.Common.{[], ◌∷◌, vec_items, refl}
 use Rattle.std.proofs.lemmas.Slice.{pushed}
 use Rattle.plain.specs.Requests.{Make, Load}
 use Rattle.book.specs.Views.{plain_of}

@@ -1,6 +1,6 @@
-use Rattle.std.proofs.Common.{◌≡◌, [], ◌∷◌, vec_items, sym, refl, ap, ◌∙◌, subst}
+use Rattle.std.proofs.Common.{◌≡◌, [], ◌∷◌, vec_items, refl, subst}
 use Rattle.std.proofs.lemmas.Slice.{pushed}
-use Rattle.plain.specs.Plain.{Plain, empty, Lawful}
+use Rattle.plain.specs.Plain.{empty, Lawful}
 use Rattle.plain.specs.Requests.{Make, checks, granted}
 use Rattle.book.specs.Views.{plain_of}
 use Rattle.history.specs.declared.calls.Answer.TheVariants as answer

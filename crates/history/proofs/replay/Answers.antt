@@ -1,4 +1,4 @@
-use Rattle.std.proofs.Common.{◌≡◌, [], ◌∷◌, ◌++◌, map, vec_items, sym, refl, ap, ◌∙◌, subst}
+use Rattle.std.proofs.Common.{◌++◌, map, vec_items}
 use Rattle.book.specs.Views.{plain_of}
 use Rattle.histories.proofs.Kept.{promised}
 use Rattle.history.specs.Calls.{request_of, reply_of, opening}

@@ -1,4 +1,4 @@
-use Rattle.std.proofs.Common.{length, drop, sym, arith}
+use Rattle.std.proofs.Common.{sym, arith}
 use Rattle.std.proofs.lemmas.List.{length-drop, take_rest}
 use Rattle.std.proofs.lemmas.Bool.{eqb-true, eqb-false}
 use Rattle.lines.proofs.Feeds.{ends-here, goes_on, never_ends}

@@ -1,4 +1,4 @@
-use Rattle.std.proofs.Common.{◌≡◌, ℕ, cond, List, ◌++◌, is_ok, vec_items, ap, ◌∙◌}
+use Rattle.std.proofs.Common.{ℕ, cond, List, ◌++◌, is_ok, vec_items, ap, ◌∙◌}
 use Rattle.plain_named.specs.Replies.{answer}
 use Rattle.named.specs.Views.{named_of}
 use Rattle.logs.proofs.Playing.{answer-front}

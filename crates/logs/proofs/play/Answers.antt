@@ -1,4 +1,4 @@
-use Rattle.std.proofs.Common.{◌≡◌, length, vec_items, sym, arith}
+use Rattle.std.proofs.Common.{length, vec_items, sym, arith}
 use Rattle.std.proofs.lemmas.Bool.{ltb-true, ltb-false}
 use Rattle.named.specs.Views.{named_of}
 use Rattle.logs.proofs.Playing.{begun, more, ended, stopped}

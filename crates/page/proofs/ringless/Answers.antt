@@ -1,8 +1,8 @@
 -- The map is the one that the page says, so a ring in it is one of the page.
-use Rattle.std.proofs.Common.{◌≡◌, ℕ, Bool, List, sym, refl, ap, ◌∙◌, subst}
+use Rattle.std.proofs.Common.{◌≡◌, ℕ, Bool, List, sym, ap, ◌∙◌, subst}
 use Rattle.units.specs.declared.UnitSet.{UnitSet}
 use Rattle.units.specs.Has.{has, in_row}
-use Rattle.theory.specs.Maps.{Map, Sound, listed}
+use Rattle.theory.specs.Maps.{Sound, listed}
 use Rattle.theory.proofs.Maps.{same_map}
 use Rattle.ranks.specs.Orders.{order_of}
 use Rattle.grid.specs.Rows as grid

@@ -1,4 +1,3 @@
-use Rattle.std.proofs.Common.{sym}
 use Rattle.grid.specs.Meaning.{matrix_map}
 use Rattle.places.proofs.Adding.{adding-none, adding-unit, adding-listed, adding-more, adding-all}
 use Rattle.places.proofs.add_sources.Goals as goal

@@ -1,4 +1,3 @@
-use Rattle.std.proofs.Common.{drop}
 use Rattle.grid.specs.Meaning.{matrix_map}
 use Rattle.places.proofs.Adding.{Adding}
 use Rattle.places.proofs.add_sources.Given as goal

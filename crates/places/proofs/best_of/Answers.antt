@@ -1,6 +1,6 @@
-use Rattle.std.proofs.Common.{ap, ◌∙◌, arith}
+use Rattle.std.proofs.Common.{◌∙◌, arith}
 use Rattle.ranks.specs.Orders.{order_of}
-use Rattle.places.specs.Trials.{trial, told_of, smaller}
+use Rattle.places.specs.Trials.{trial, told_of}
 use Rattle.places.proofs.Trying.{at-rank, best-last, best-more}
 use Rattle.places.proofs.best_of.Goals as goal
 

@@ -1,4 +1,4 @@
-use Rattle.std.proofs.Common.{refl, arith}
+use Rattle.std.proofs.Common.{arith}
 use Rattle.labels.specs.Holding.{rows_of}
 use Rattle.places.proofs.Sums.{total-start, total-more, total-end}
 use Rattle.places.proofs.total_of.Goals as goal

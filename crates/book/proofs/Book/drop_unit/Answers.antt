@@ -7,7 +7,7 @@ use Rattle.plain.specs.Requests.{Drop, checks, unknown}
 use Rattle.book.specs.Views.{plain_by}
 use Rattle.book.proofs.Agree.{keeps}
 use Rattle.book.proofs.Answering.{no-cause}
-use Rattle.book.proofs.Changing.{AllAbsent, all-absent, refused, not-refused, mended-at}
+use Rattle.book.proofs.Changing.{all-absent, refused, not-refused, mended-at}
 use Rattle.book.proofs.Moving.{one_known, drop-done, orders-at}
 use Rattle.book.proofs.Book.drop_unit.Goals as goal
 

@@ -1,6 +1,5 @@
 use Rattle.std.proofs.Common.{length, refl}
 use Rattle.theory.specs.Lists.{in_labels}
-use Rattle.ranks.specs.Orders.{order_of}
 use Rattle.plain.specs.Plain.{map_of}
 use Rattle.plain.specs.Requests.{InLabels, checks}
 use Rattle.book.specs.Views.{plain_of}

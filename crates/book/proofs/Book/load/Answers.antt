@@ -1,7 +1,5 @@
 -- A refusal leaves the book as it was; a granted load is the book that the page says.
-use Rattle.std.proofs.Common.{◌≡◌, ℕ, Some, None, sym, refl, ap, ◌∙◌, subst, arith}
-use Rattle.ranks.specs.Orders.{order_of}
-use Rattle.plain.specs.declared.BookFault.TheVariants as fault
+use Rattle.std.proofs.Common.{◌≡◌, ℕ, sym, refl, ap, ◌∙◌, subst, arith}
 use Rattle.plain.specs.Requests.{Load, verdict}
 use Rattle.grid.specs.Meaning.{matrix_map}
 use Rattle.book.specs.declared.Book.{Book}

@@ -1,4 +1,3 @@
-use Rattle.std.proofs.Common.{◌≡◌, sym, ap, ◌∙◌}
 use Rattle.ranks.specs.Orders.{order_of}
 use Rattle.book.proofs.Agree.{keeps}
 use Rattle.book.proofs.Enrolling.{ring-told}

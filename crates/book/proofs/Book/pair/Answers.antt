@@ -1,11 +1,11 @@
-use Rattle.std.proofs.Common.{◌≡◌, ℕ, sym, refl, ap, ◌∙◌, arith}
+use Rattle.std.proofs.Common.{◌≡◌, ℕ, refl, ap, ◌∙◌, arith}
 use Rattle.theory.specs.Maps.{with_pair}
 use Rattle.ranks.specs.Orders.{order_of}
 use Rattle.plain.specs.Requests.{Pair, checks, pair_checks}
 use Rattle.book.specs.Views.{plain_by}
 use Rattle.book.proofs.Agree.{keeps}
 use Rattle.book.proofs.Answering.{no-cause}
-use Rattle.book.proofs.Changing.{AllAbsent, all-absent, refused, not-refused, mended-at}
+use Rattle.book.proofs.Changing.{all-absent, refused, not-refused, mended-at}
 use Rattle.book.proofs.Pairing.{both-known, pair-done, join-granted}
 use Rattle.book.proofs.Book.pair.Goals as goal
 

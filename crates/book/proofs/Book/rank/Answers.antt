@@ -1,4 +1,4 @@
-use Rattle.std.proofs.Common.{◌-◌, [], ◌∷◌, refl, ap, ◌∙◌}
+use Rattle.std.proofs.Common.{◌-◌, refl, ap, ◌∙◌}
 use Rattle.theory.specs.Ranks.{moved}
 use Rattle.theory.proofs.Enrols.{rank_orders}
 use Rattle.ranks.specs.Orders.{order_of}
@@ -6,7 +6,7 @@ use Rattle.plain.specs.Requests.{Rank, checks, rank_checks}
 use Rattle.book.specs.Views.{plain_by}
 use Rattle.book.proofs.Agree.{keeps}
 use Rattle.book.proofs.Answering.{no-cause}
-use Rattle.book.proofs.Changing.{AllAbsent, all-absent, refused, not-refused, mended-at}
+use Rattle.book.proofs.Changing.{all-absent, refused, not-refused, mended-at}
 use Rattle.book.proofs.Pairing.{in_order}
 use Rattle.book.proofs.Moving.{one_known, rank-done, orders-at}
 use Rattle.book.proofs.Book.rank.Goals as goal

@@ -1,4 +1,4 @@
-use Rattle.std.proofs.Common.{sym, ◌∙◌, arith, rules}
+use Rattle.std.proofs.Common.{arith, rules}
 use Rattle.grammar.specs.Reading.{number_run, value_after}
 use Rattle.lines.proofs.Cuts.{no_field, a-field}
 use Rattle.lines.proofs.Rest.number.Goals as goal

@@ -1,6 +1,6 @@
-use Rattle.std.proofs.Common.{◌≡◌, sym, refl, ap, subst}
+use Rattle.std.proofs.Common.{sym, refl, ap, subst}
 use Rattle.grammar.specs.Grammar as said
-use Rattle.plain_named.specs.Lines.{Enrol, asked}
+use Rattle.plain_named.specs.Lines.{Enrol}
 use Rattle.plain_named.specs.Calls.{Obeyed}
 use Rattle.plain_named.proofs.Obeying.{new-asked, new-refused, name-exit, card-exit, card-written, not-refused}
 use Rattle.named.specs.Views.{named_of}

@@ -1,4 +1,4 @@
-use Rattle.std.proofs.Common.{◌≡◌, length, sym, refl, ◌∙◌, subst}
+use Rattle.std.proofs.Common.{length, sym, refl, ◌∙◌, subst}
 use Rattle.std.proofs.lemmas.Bool.{ltb-false}
 use Rattle.answers.specs.Texts.{Near}
 use Rattle.plain_named.proofs.Chains.{by-chains}

@@ -3,7 +3,7 @@ use Rattle.names.specs.Cards.{names_of}
 use Rattle.names.specs.Names.{Names, nameless}
 use Rattle.plain.specs.Plain.{Plain, empty}
 use Rattle.book.specs.Views.{plain_of}
-use Rattle.plain_named.specs.Named.{Named, nobody, WellNamed}
+use Rattle.plain_named.specs.Named.{Named, WellNamed}
 use Rattle.plain_named.proofs.Naming.{nobody-well}
 use Rattle.named.proofs.NamedBook.make.Goals as goal
 

@@ -1,4 +1,4 @@
-use Rattle.std.proofs.Common.{◌≡◌, sym, refl, ◌∙◌, subst}
+use Rattle.std.proofs.Common.{sym, refl, ◌∙◌, subst}
 use Rattle.lines.specs.Lines.{said}
 use Rattle.plain_named.specs.Named.{WellNamed}
 use Rattle.plain_named.proofs.Naming.{after-well}

@@ -1,4 +1,4 @@
-use Rattle.std.proofs.Common.{arith, rules}
+use Rattle.std.proofs.Common.{rules}
 use Rattle.names.proofs.Marks.{front}
 use Rattle.names.proofs.Card.name.Goals as goal
 

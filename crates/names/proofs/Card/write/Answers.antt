@@ -1,4 +1,4 @@
-use Rattle.std.proofs.Common.{◌-◌, ◌++◌, length, refl, ap, arith, rules}
+use Rattle.std.proofs.Common.{◌-◌, ◌++◌, length, refl, ap}
 use borrow.Rule.Slice.PartMut.{post_of}
 use Rattle.names.proofs.Marks.{put}
 use Rattle.names.proofs.Card.write.Goals as goal

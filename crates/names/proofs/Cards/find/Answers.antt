@@ -1,6 +1,6 @@
-use Rattle.std.proofs.Common.{◌≡◌, ℕ, ltb, length, Some, None, sym, ap, ◌∙◌, subst, arith, rules, MatchOption}
+use Rattle.std.proofs.Common.{◌≡◌, ℕ, ltb, Some, sym, ◌∙◌, subst, arith, MatchOption}
 use Rattle.std.proofs.lemmas.Bool.{le-ltb, cond-false}
-use Rattle.names.specs.Cards.{names_of, name_on, past}
+use Rattle.names.specs.Cards.{names_of}
 use Rattle.names.proofs.Finding.{from_first, from-here, from_next, from_last, holder, is-name-true}
 use Rattle.names.proofs.Cards.find.Goals as goal
 

@@ -1,4 +1,4 @@
-use Rattle.std.proofs.Common.{◌≡◌, ℕ, ◌+◌, ◌-◌, ◌<◌, ◌≤◌, true, false, get_or, sym, ap, ◌∙◌, subst, arith}
+use Rattle.std.proofs.Common.{◌≡◌, ℕ, ◌+◌, ◌-◌, ◌≤◌, false, get_or, sym, ap, ◌∙◌, arith}
 use Rattle.plain.specs.Lists.{every, numbers}
 use Rattle.plain.specs.Pages.{record_count}
 use Rattle.page_laws.proofs.Numbers.{every-broken, every_more}

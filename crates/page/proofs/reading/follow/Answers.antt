@@ -1,8 +1,8 @@
 -- Each turn goes on along the chain, to a listener not met before; where it cannot, the page breaks a rule.
-use Rattle.std.proofs.Common.{◌≡◌, ℕ, ◌<◌, ◌≤◌, Bool, true, ◌||◌, eqb, [], ◌∷◌, ◌++◌, length, get_or, set, sym, refl, ap, ◌∙◌, subst, arith, length-set}
+use Rattle.std.proofs.Common.{◌≡◌, ℕ, ◌<◌, true, ◌||◌, eqb, [], ◌∷◌, ◌++◌, set, sym, refl, ap, ◌∙◌, subst, arith, length-set}
 use Rattle.units.specs.Has.{has}
 use Rattle.ranks.specs.Orders.{order_of}
-use Rattle.plain.specs.Pages.{listener_in, record_count}
+use Rattle.plain.specs.Pages.{listener_in}
 use Rattle.page_laws.specs.Along.{Along}
 use Rattle.page_laws.proofs.Lawful.{form-most}
 use Rattle.page_laws.proofs.Follow.{stuck, followed-more, met-falls, along-done}

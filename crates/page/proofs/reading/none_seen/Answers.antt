@@ -1,4 +1,4 @@
-use Rattle.std.proofs.Common.{◌≡◌, ℕ, zero, suc, Bool, false, get_or, replicate, refl}
+use Rattle.std.proofs.Common.{◌≡◌, ℕ, zero, suc, false, get_or, replicate, refl}
 use Rattle.page.proofs.reading.none_seen.Goals as goal
 
 all-false : (n k : ℕ) → get_or (replicate n false) k false ≡ false

@@ -1,8 +1,7 @@
-use Rattle.std.proofs.Common.{◌≡◌, ℕ, ◌≤◌, Bool, true, false, cond, eqb, List, sym, refl, ap, ◌∙◌, subst, arith}
+use Rattle.std.proofs.Common.{◌≡◌, ℕ, ◌≤◌, Bool, true, false, cond, eqb, List, sym, ap, ◌∙◌, subst, arith}
 use Rattle.units.specs.Has.{has, in_row}
 use Rattle.theory.specs.Chains.{On}
 use Rattle.theory.specs.Ranks.{Once}
-use Rattle.ranks.specs.Orders.{order_of}
 use Rattle.plain.specs.Pages.{unit_in, unit_count, page_units}
 use Rattle.page_laws.specs.Parts.{Followed}
 use Rattle.page_laws.specs.Pairs.{paired_by}

@@ -1,5 +1,5 @@
 -- The chains of the first units are followed, and the sets hold their pairings.
-use Rattle.std.proofs.Common.{◌≡◌, ℕ, length}
+use Rattle.std.proofs.Common.{◌≡◌, ℕ}
 use Rattle.units.specs.Has.{in_row}
 use Rattle.page_laws.specs.Parts.{Followed}
 use Rattle.page_laws.specs.Pairs.{paired_by}

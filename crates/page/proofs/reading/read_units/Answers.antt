@@ -1,10 +1,10 @@
 -- The order so far is the front of the units; a number that is not taken breaks a rule of the page.
-use Rattle.std.proofs.Common.{◌≡◌, ℕ, ◌≤◌, true, List, [], ◌∷◌, ◌++◌, sym, ap, ◌∙◌, subst, arith}
+use Rattle.std.proofs.Common.{◌≡◌, ℕ, List, [], ◌∷◌, ◌++◌, sym, ap, ◌∙◌, arith}
 use Rattle.theory.specs.Maps.{listed}
 use Rattle.theory.specs.Ranks.{inserted}
 use Rattle.ranks.specs.Orders.{order_of}
 use Rattle.ranks.proofs.Whole.{inserted-last}
-use Rattle.plain.specs.Pages.{unit_in, unit_count}
+use Rattle.plain.specs.Pages.{unit_count}
 use Rattle.page_laws.proofs.Units.{units-grown, units-all, unit-listed, unit-zero, front}
 use Rattle.page.proofs.reading.read_units.Goals as goal
 use Rattle.page.proofs.reading.read_units.Goals.{then-u-eq0-via-then-u-eq0, then-u-eq0-via-else-u-eq0+then-holds}

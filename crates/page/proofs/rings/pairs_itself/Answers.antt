@@ -1,6 +1,5 @@
-use Rattle.std.proofs.Common.{◌≡◌, sym, ◌∙◌}
+use Rattle.std.proofs.Common.{sym}
 use Rattle.units.specs.Has.{in_row}
-use Rattle.plain.specs.Lists.{some}
 use Rattle.plain.proofs.Some.{found, passed-by, none_found}
 use Rattle.page.proofs.rings.pairs_itself.Goals as goal
 

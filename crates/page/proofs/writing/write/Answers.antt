@@ -1,7 +1,6 @@
 -- The head, the unit records and the pairing records, one after the other, are the whole page.
-use Rattle.std.proofs.Common.{◌≡◌, ℕ, ◌+◌, ◌*◌, ◌≤◌, List, ◌++◌, length, take, sym, refl, ap, ◌∙◌, append_assoc, arith}
+use Rattle.std.proofs.Common.{◌≡◌, ℕ, ◌+◌, ◌*◌, List, ◌++◌, length, sym, refl, ap, ◌∙◌, append_assoc, arith}
 use Rattle.std.proofs.lemmas.List.{take_all}
-use Rattle.theory.specs.Maps.{Map}
 use Rattle.theory.specs.Counts.{pair_count}
 use Rattle.theory.specs.Lists.{sum}
 use Rattle.theory.proofs.Counting.{pair-count-same}

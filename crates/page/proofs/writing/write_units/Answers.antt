@@ -1,7 +1,5 @@
-use Rattle.std.proofs.Common.{◌≡◌, ℕ, ◌+◌, ◌*◌, cond, eqb, List, ◌++◌, length, get_or, take, drop, sym, refl, ap, ◌∙◌, arith}
+use Rattle.std.proofs.Common.{◌≡◌, ℕ, ◌+◌, ◌*◌, cond, eqb, List, ◌++◌, length, get_or, take, drop, sym, ap, ◌∙◌, arith}
 use Rattle.std.proofs.lemmas.List.{at_drop_all}
-use Rattle.theory.specs.Lists.{sum}
-use Rattle.theory.specs.Counts.{count}
 use Rattle.theory.proofs.Counting.{count_same}
 use Rattle.maps.proofs.Asked.{zero-not-listening}
 use Rattle.plain.specs.Saving.{ascending, record_bytes, next_index, unit_bytes}

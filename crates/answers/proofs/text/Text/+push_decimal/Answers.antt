@@ -1,4 +1,4 @@
-use Rattle.std.proofs.Common.{arith, rules}
+use Rattle.std.proofs.Common.{arith}
 use Rattle.answers.proofs.Adding.{added-digit, added-step, step-length, digit-length}
 use Rattle.answers.proofs.text.Text.+push_decimal.Goals as goal
 

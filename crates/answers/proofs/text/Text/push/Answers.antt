@@ -1,4 +1,4 @@
-use Rattle.std.proofs.Common.{arith, rules}
+use Rattle.std.proofs.Common.{rules}
 use Rattle.answers.proofs.Adding.{added-one}
 use Rattle.answers.proofs.text.Text.push.Goals as goal
 

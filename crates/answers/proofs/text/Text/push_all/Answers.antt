@@ -1,4 +1,4 @@
-use Rattle.std.proofs.Common.{◌≡◌, length, take, arith}
+use Rattle.std.proofs.Common.{arith}
 use Rattle.std.proofs.lemmas.List.{length-take-le, take_all}
 use Rattle.answers.proofs.Adding.{added_none, added_more, added-as}
 use Rattle.answers.proofs.text.Text.push_all.Goals as goal
