@@ -46,7 +46,7 @@ mod tests {
         play(&mut book, more, &mut answers)?;
         let expected =
             b"refused 7 S 8\nrefused 6 B 6\nrefused 8 B 6\nok 1\nok 1\nrefused 7 S 6\nok 253\nok 1\n";
-        assert!(rt; answers.as_slice() == expected);
+        assert!(rt; answers.as_slice() == expected.as_slice());
         Ok(())
     }
 
