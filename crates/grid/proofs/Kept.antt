@@ -4,7 +4,7 @@ use Rattle.std.proofs.lemmas.Bool.{cases_eq, cases_Bool, both_ways, eq-eqb, ne_e
 use Rattle.std.proofs.lemmas.Bool.Decides.{nat_tests}
 use Rattle.units.specs.declared.UnitSet.{UnitSet}
 use Rattle.units.specs.Has.{has, blank}
-use Rattle.units.proofs.Members.{member-small}
+use Rattle.units.proofs.Words.{member-small}
 use Rattle.theory.proofs.Tests.{passes, passed}
 use Rattle.theory.specs.Maps.{Map, Sound, without_unit}
 use Rattle.grid.specs.Meaning.{matrix_map}

@@ -1,5 +1,5 @@
 -- Lists of different numbers: where each stands, and how many there can be.
-use Rattle.std.proofs.Common.{◌≡◌, ℕ, zero, suc, ◌<◌, ◌≤◌, true, false, ◌≢◌, ◌⊎◌, List, [], ◌∷◌, length, get_or, sym, refl, ap, ◌∙◌, subst, inl, inr, ⊎_elim, arith}
+use Rattle.std.proofs.Common.{◌≡◌, ℕ, zero, suc, ◌<◌, ◌≤◌, Bool, true, false, ◌||◌, eqb, ◌≢◌, ◌⊎◌, List, [], ◌∷◌, ◌++◌, length, get_or, sym, refl, ap, ◌∙◌, subst, inl, inr, ⊎_elim, arith}
 use Rattle.std.proofs.lemmas.Bool.{both_ways, cases_Bool, cases_eq}
 use Rattle.theory.specs.Maps.{listed}
 use Rattle.theory.specs.Chains.{On}
@@ -65,3 +65,14 @@ fewer n xs once low high v one most far =
     let all =
     at_most n (v ∷ xs) (far, once) (λ u. ⊎_elim (λ e. omega arith) (low u)) (λ u. ⊎_elim (λ e. omega arith) (high u)) in
     omega arith
+
+-- a list with one more at the end
+pub listed-more : (k : ℕ) (xs : List ℕ) (x : ℕ) → listed k (xs ++ x ∷ []) ≡ (eqb k x || listed k xs)
+listed-more k [] x = refl
+listed-more k (y ∷ ys) x = ap (λ b. eqb k y || b) (listed-more k ys x) ∙ swapped (eqb k y) (eqb k x) (listed k ys)
+  where
+    swapped : (a b c : Bool) → (a || (b || c)) ≡ (b || (a || c))
+    swapped true true c = refl
+    swapped true false c = refl
+    swapped false true c = refl
+    swapped false false c = refl

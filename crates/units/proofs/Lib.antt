@@ -1,4 +1,5 @@
 pub mod Bits
-pub mod Members
+pub mod Words
 pub mod Sizes
 pub mod Rows
+pub mod Listing

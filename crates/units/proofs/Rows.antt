@@ -2,7 +2,7 @@
 use Rattle.std.proofs.Common.{◌≡◌, ℕ, zero, suc, false, replicate}
 use Rattle.units.specs.declared.UnitSet.{UnitSet}
 use Rattle.units.specs.Has.{has, in_row}
-use Rattle.units.proofs.Members.{member-blank}
+use Rattle.units.proofs.Words.{member-blank}
 
 pub all-empty : (s : UnitSet) → ((k : ℕ) → has s k ≡ false) → (n : ℕ) → (x y : ℕ) → in_row (replicate n s) x y ≡ false
 all-empty s e zero x y = member-blank y

@@ -5,7 +5,7 @@ use Rattle.theory.specs.Counts.{sum_below, one, count}
 use Rattle.theory.proofs.Counting.{sum-none, sum_same}
 use Rattle.units.specs.Bit.{bit, member}
 use Rattle.units.proofs.Bits.{bit-low, bit-suc}
-use Rattle.units.proofs.Members.{member-read}
+use Rattle.units.proofs.Words.{member-read}
 
 -- a sum in two parts
 sum-parts : (f : ℕ → ℕ) (m n : ℕ) → sum_below f (m + n) ≡ sum_below f m + sum_below (λ k. f (m + k)) n

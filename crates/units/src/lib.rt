@@ -2,12 +2,17 @@
 // speaks of membership alone.
 #![tactic(auto)]
 
-ghost use Rattle.std.specs.Prelude.{◌≡◌, ℕ, ◌+◌, ◌/◌, ◌%◌, ◌^◌, ◌<◌, ◌≤◌, false, not, ◌&&◌, ◌||◌, replicate, IfSome, ◌==◌, bit_and, bit_or, bit_xor, count_ones};
+ghost use Rattle.std.specs.Prelude.{◌≡◌, ℕ, ◌+◌, ◌/◌, ◌%◌, ◌^◌, ◌<◌, ◌≤◌, false, not, ◌&&◌, ◌||◌, replicate, slice_index, IfSome, ◌==◌, bit_and, bit_or, bit_xor, count_ones};
 ghost use Rattle.std.specs.Bool.{xor};
 ghost use Rattle.theory.specs.Counts.{count};
-ghost use Rattle.units.specs.Bit.{Fit, bit, each_word, joined, lacking};
+ghost use Rattle.units.specs.Bit.{bit, joined, lacking};
 ghost use Rattle.units.specs.Has.{has, in_row};
+ghost use Rattle.units.specs.Listed.{left, members};
 ghost use Rattle.units.specs.Sets.{Inhabited, Least};
+
+mod members;
+
+pub use members::Members;
 
 #[derive(Clone, Copy)]
 pub struct UnitSet {
@@ -42,38 +47,42 @@ impl UnitSet {
     }
 
     // The members of either set.
+    #[tactic(auto, using(crate::proofs::Words::union_words))]
     pub fn union(&self, other: &UnitSet) -> UnitSet
         ensures { (k : ℕ) → has result k ≡ (has self.now k || has other.now k) }
     {
         UnitSet {
-            words: or_words(&self.words, &other.words),
+            words: each_word(&self.words, &other.words, |x, y| x | y),
         }
     }
 
     // The members of both sets.
+    #[tactic(auto, using(crate::proofs::Words::intersection_words))]
     pub fn intersection(&self, other: &UnitSet) -> UnitSet
         ensures { (k : ℕ) → has result k ≡ (has self.now k && has other.now k) }
     {
         UnitSet {
-            words: and_words(&self.words, &other.words),
+            words: each_word(&self.words, &other.words, |x, y| x & y),
         }
     }
 
     // The members that the other set lacks.
+    #[tactic(auto, using(crate::proofs::Words::minus_words))]
     pub fn minus(&self, other: &UnitSet) -> UnitSet
         ensures { (k : ℕ) → has result k ≡ (has self.now k && not (has other.now k)) }
     {
         UnitSet {
-            words: and_not_words(&self.words, &other.words),
+            words: each_word(&self.words, &other.words, |x, y| x & !y),
         }
     }
 
     // The members of one of the sets and not of the other.
+    #[tactic(auto, using(crate::proofs::Words::difference_words))]
     pub fn symmetric_difference(&self, other: &UnitSet) -> UnitSet
         ensures { (k : ℕ) → has result k ≡ xor (has self.now k) (has other.now k) }
     {
         UnitSet {
-            words: xor_words(&self.words, &other.words),
+            words: each_word(&self.words, &other.words, |x, y| x ^ y),
         }
     }
 
@@ -101,7 +110,7 @@ impl UnitSet {
     }
 
     // The least member that is not below from.
-    fn least_from(&self, from: u8) -> Option<u8>
+    pub(crate) fn least_from(&self, from: u8) -> Option<u8>
         ensures { Least (has self.now) from result }
     {
         let start = from / 64;
@@ -114,6 +123,13 @@ impl UnitSet {
             }
         }
         None
+    }
+
+    // The members one by one, the least first.
+    pub fn iter(&self) -> Members
+        ensures { left result ≡ members self.now }
+    {
+        Members { rest: *self }
     }
 
     // How many members there are.
@@ -165,33 +181,17 @@ fn without_bit(word: u64, place: u8) -> u64
     word & !(1 << place)
 }
 
-// The bits of either row.
-fn or_words(a: &[u64; 4], b: &[u64; 4]) -> [u64; 4]
-    ensures { result ≡ each_word bit_or a.now b.now }
+// The row whose words `op` makes of the words of two rows.
+fn each_word<F: Fn(u64, u64) -> u64>(a: &[u64; 4], b: &[u64; 4], op: F) -> [u64; 4]
+    requires { F.IsAlwaysCallable op }
+    ensures { (i : ℕ) → i < 4 → F.post op (slice_index a.now i) (slice_index b.now i) (slice_index result i) × (slice_index b.now i < 2 ^ 64) }
 {
-    [a[0] | b[0], a[1] | b[1], a[2] | b[2], a[3] | b[3]]
-}
-
-// The bits of both rows.
-fn and_words(a: &[u64; 4], b: &[u64; 4]) -> [u64; 4]
-    ensures { result ≡ each_word bit_and a.now b.now }
-{
-    [a[0] & b[0], a[1] & b[1], a[2] & b[2], a[3] & b[3]]
-}
-
-// The bits of the first row that the second lacks.
-fn and_not_words(a: &[u64; 4], b: &[u64; 4]) -> [u64; 4]
-    ensures made { result ≡ each_word lacking a.now b.now }
-    ensures fit { Fit b.now }
-{
-    [a[0] & !b[0], a[1] & !b[1], a[2] & !b[2], a[3] & !b[3]]
-}
-
-// The bits of one row and not of the other.
-fn xor_words(a: &[u64; 4], b: &[u64; 4]) -> [u64; 4]
-    ensures { result ≡ each_word bit_xor a.now b.now }
-{
-    [a[0] ^ b[0], a[1] ^ b[1], a[2] ^ b[2], a[3] ^ b[3]]
+    [
+        op(a[0], b[0]),
+        op(a[1], b[1]),
+        op(a[2], b[2]),
+        op(a[3], b[3]),
+    ]
 }
 
 // The bits that some word has.

@@ -3,7 +3,7 @@ use Rattle.std.proofs.Common.{◌≡◌, ℕ, zero, suc, ◌<◌, ◌≤◌, Boo
 use Rattle.std.proofs.lemmas.Bool.{cases_lt, lt-ltb, and_right}
 use Rattle.units.specs.declared.UnitSet.{UnitSet}
 use Rattle.units.specs.Has.{in_row}
-use Rattle.units.proofs.Members.{member-blank}
+use Rattle.units.proofs.Words.{member-blank}
 use Rattle.grid.proofs.rows.transposed.Goals as goal
 
 past-last : (rows : List UnitSet) (x y : ℕ) → length rows ≤ x → in_row rows x y ≡ false

@@ -2,7 +2,7 @@ use Rattle.std.proofs.Common.{◌≡◌, ℕ, ◌+◌, ◌*◌, ◌≤◌, true,
 use Rattle.units.specs.declared.UnitSet.{UnitSet}
 use Rattle.units.specs.Has.{has}
 use Rattle.units.specs.Sets.{Least}
-use Rattle.units.proofs.Members.{member-small}
+use Rattle.units.proofs.Words.{member-small}
 use Rattle.plain.specs.Saving.{ascending, record_bytes, chain_bytes}
 use Rattle.page_laws.specs.Ahead.{ahead, following_index}
 use Rattle.page_laws.proofs.Writing.{all-ahead, next-ahead, chain_more, written, all-written, none_ahead}

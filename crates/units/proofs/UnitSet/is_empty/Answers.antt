@@ -1,7 +1,7 @@
 use Rattle.std.proofs.Common.{ℕ, ◌^◌, ◌<◌, not, eqb, sym, subst, arith}
 use Rattle.units.specs.Bit.{member, joined}
 use Rattle.units.specs.Sets.{Inhabited}
-use Rattle.units.proofs.Members.{inhabited}
+use Rattle.units.proofs.Words.{inhabited}
 use Rattle.units.proofs.UnitSet.is_empty.Goals as goal
 
 pub returns : goal.returns

@@ -1,6 +1,6 @@
 use Rattle.std.proofs.Common.{◌/◌, ◌%◌, inl, inr, arith}
 use Rattle.std.proofs.lemmas.Bool.{cases_lt}
-use Rattle.units.proofs.Members.{member-past, word_none, word_some}
+use Rattle.units.proofs.Words.{member-past, word_none, word_some}
 use Rattle.units.proofs.UnitSet.least_from.Goals as goal
 
 pub overflow_add-result : goal.overflow_add-result

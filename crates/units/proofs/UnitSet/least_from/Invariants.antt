@@ -1,5 +1,5 @@
 use Rattle.std.proofs.Common.{◌*◌}
-use Rattle.units.proofs.Members.{Clear}
+use Rattle.units.proofs.Words.{Clear}
 use Rattle.units.proofs.UnitSet.least_from.Given as goal
 
 abbrev pub invariant-loop-w : goal.invariant-loop-w

@@ -1,5 +1,5 @@
 use Rattle.std.proofs.Common.{◌^◌, ◌<◌, get_or, arith}
-use Rattle.units.proofs.Members.{each-four}
+use Rattle.units.proofs.Words.{each-four}
 use Rattle.units.proofs.Sizes.{size}
 use Rattle.units.proofs.UnitSet.len.Goals as goal
 

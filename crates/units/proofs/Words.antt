@@ -4,7 +4,7 @@ use mathlib.Core.Bool.{xor}
 use lib.Bits.{bit_and, bit_or, bit_xor}
 use Rattle.std.proofs.lemmas.Bool.{both_ways, lt-ltb, le-ltb, cases_lt, ltb-true, eqb-true, ne_eqb, eq-eqb, cases_eq, cases_Bool, and_left, or_parts, or_cases}
 use Rattle.std.proofs.lemmas.Nat.{pow_below}
-use Rattle.units.specs.Bit.{bit, member, lacking, each_word, joined}
+use Rattle.units.specs.Bit.{bit, member, lacking, joined}
 use Rattle.units.proofs.Bits.{bit-or, bit-and, bit-xor, bit-pow, bit_not, bit-zero, bit-add, bit_past, same-eqb, at-trailing, below-trailing}
 use Rattle.units.specs.Sets.{Inhabited, Least}
 use lib.Count.{count_trailing_zeros}
@@ -102,54 +102,40 @@ member-remove ws u l h k = elim (cases_eq (k / 64) (u / 64)) [
 
 -- ---- word by word
 
--- a row of four words that are made alike
-four : (f : ℕ → ℕ) (i : ℕ) → i < 4 → get_or (f 0 ∷ f 1 ∷ f 2 ∷ f 3 ∷ []) i 0 ≡ f i
-four f zero h = refl
-four f (suc zero) h = refl
-four f (suc (suc zero)) h = refl
-four f (suc (suc (suc zero))) h = refl
-four f (suc (suc (suc (suc i)))) h = absurd (omega arith)
-
--- ... has a member where its word has the digit
-pub member-four : (f : ℕ → ℕ) (g : ℕ → Bool) → ((k : ℕ) → k < 256 → bit (f (k / 64)) (k % 64) ≡ g k)
-    → (k : ℕ) → member (f 0 ∷ f 1 ∷ f 2 ∷ f 3 ∷ []) k ≡ (ltb k 256 && g k)
-unfolding member
-member-four f g each k = elim (cases_Bool (ltb k 256)) [
-  | inl t ↦
-      let h = ltb-true k 256 t in
-      ap (λ (x : ℕ). ltb k 256 && bit x (k % 64)) (four f (k / 64) (omega arith)) ∙ ap (λ b. ltb k 256 && b) (each k h)
-  | inr t ↦ ap (λ b. b && bit (get_or (f 0 ∷ f 1 ∷ f 2 ∷ f 3 ∷ []) (k / 64) 0) (k % 64)) t ∙ sym (ap (λ b. b && g k) t)
-]
-
 -- ... and is made from two rows word by word, by what makes one digit from two
-module _ (xs ys : List ℕ) (op : ℕ → ℕ → ℕ) (g : Bool → Bool → Bool) (off : g false false ≡ false) where
+module _ (op : ℕ → ℕ → ℕ) (g : Bool → Bool → Bool) (off : g false false ≡ false) where
   spread : (t x y : Bool) → (t && g x y) ≡ g (t && x) (t && y)
   spread true x y = refl
   spread false x y = sym off
 
-  pub member-made : ((i j : ℕ) → i < 4 → j < 64 → bit (op (get_or xs i 0) (get_or ys i 0)) j ≡ g (bit (get_or xs i 0) j) (bit (get_or ys i 0) j))
-      → (k : ℕ) → member (each_word op xs ys) k ≡ g (member xs k) (member ys k)
+  words-made : (xs ys ws : List ℕ) → ((i : ℕ) → i < 4 → get_or ws i 0 ≡ op (get_or xs i 0) (get_or ys i 0))
+      → ((i j : ℕ) → i < 4 → j < 64 → bit (op (get_or xs i 0) (get_or ys i 0)) j ≡ g (bit (get_or xs i 0) j) (bit (get_or ys i 0) j))
+      → (k : ℕ) → member ws k ≡ g (member xs k) (member ys k)
   unfolding member
-  member-made each k =
-      member-four (λ i. op (get_or xs i 0) (get_or ys i 0)) (λ k. g (bit (get_or xs (k / 64) 0) (k % 64)) (bit (get_or ys (k / 64) 0) (k % 64)))
-      (λ k h. each (k / 64) (k % 64) (omega arith) (omega arith)) k
-      ∙ spread (ltb k 256) _ _
+  words-made xs ys ws made each k = elim (cases_Bool (ltb k 256)) [
+    | inl t ↦
+        let h = ltb-true k 256 t in
+        ap (λ b. b && bit (get_or ws (k / 64) 0) (k % 64)) t
+        ∙ ap (λ (x : ℕ). bit x (k % 64)) (made (k / 64) (omega arith)) ∙ each (k / 64) (k % 64) (omega arith) (omega arith)
+        ∙ sym (ap (λ b. g (b && bit (get_or xs (k / 64) 0) (k % 64)) (b && bit (get_or ys (k / 64) 0) (k % 64))) t)
+    | inr t ↦
+        ap (λ b. b && bit (get_or ws (k / 64) 0) (k % 64)) t ∙ sym off
+        ∙ sym (ap (λ b. g (b && bit (get_or xs (k / 64) 0) (k % 64)) (b && bit (get_or ys (k / 64) 0) (k % 64))) t)
+  ]
 
-pub member_union : (xs ys : List ℕ) (k : ℕ) → member (each_word bit_or xs ys) k ≡ (member xs k || member ys k)
-member_union xs ys = member-made xs ys bit_or ◌||◌ refl (λ i j hi hj. bit-or (get_or xs i 0) (get_or ys i 0) j)
+-- each word of ws is what op makes of the words of xs and ys at its place
+abbrev Made : (ℕ → ℕ → ℕ) → List ℕ → List ℕ → List ℕ → Type 0
+Made op xs ys ws = (i : ℕ) → i < 4 → get_or ws i 0 ≡ op (get_or xs i 0) (get_or ys i 0)
 
-pub member-intersection : (xs ys : List ℕ) (k : ℕ) → member (each_word bit_and xs ys) k ≡ (member xs k && member ys k)
-member-intersection xs ys = member-made xs ys bit_and ◌&&◌ refl (λ i j hi hj. bit-and (get_or xs i 0) (get_or ys i 0) j)
+pub union_words : (xs ys ws : List ℕ) → Made bit_or xs ys ws → (k : ℕ) → member ws k ≡ (member xs k || member ys k)
+union_words xs ys ws made = words-made bit_or ◌||◌ refl xs ys ws made (λ i j hi hj. bit-or (get_or xs i 0) (get_or ys i 0) j)
 
-pub member-difference : (xs ys : List ℕ) (k : ℕ) → member (each_word bit_xor xs ys) k ≡ xor (member xs k) (member ys k)
+pub intersection_words : (xs ys ws : List ℕ) → Made bit_and xs ys ws → (k : ℕ) → member ws k ≡ (member xs k && member ys k)
+intersection_words xs ys ws made = words-made bit_and ◌&&◌ refl xs ys ws made (λ i j hi hj. bit-and (get_or xs i 0) (get_or ys i 0) j)
+
+pub difference_words : (xs ys ws : List ℕ) → Made bit_xor xs ys ws → (k : ℕ) → member ws k ≡ xor (member xs k) (member ys k)
 unfolding xor
-member-difference xs ys = member-made xs ys bit_xor xor refl (λ i j hi hj. bit-xor (get_or xs i 0) (get_or ys i 0) j)
-
-pub member-minus : (xs ys : List ℕ) → ((i : ℕ) → i < 4 → get_or ys i 0 < 2 ^ 64) → (k : ℕ)
-    → member (each_word lacking xs ys) k ≡ (member xs k && not (member ys k))
-member-minus xs ys fits =
-    member-made xs ys lacking (λ a b. a && not b) refl
-    (λ i j hi hj. bit-and (get_or xs i 0) _ j ∙ ap (λ b. bit (get_or xs i 0) j && b) (bit_not 64 (get_or ys i 0) j (fits i hi) hj))
+difference_words xs ys ws made = words-made bit_xor xor refl xs ys ws made (λ i j hi hj. bit-xor (get_or xs i 0) (get_or ys i 0) j)
 
 pub each-four : (P : ℕ → Type 0) → P 0 → P 1 → P 2 → P 3 → (i : ℕ) → i < 4 → P i
 each-four P p0 p1 p2 p3 zero h = p0
@@ -157,6 +143,12 @@ each-four P p0 p1 p2 p3 (suc zero) h = p1
 each-four P p0 p1 p2 p3 (suc (suc zero)) h = p2
 each-four P p0 p1 p2 p3 (suc (suc (suc zero))) h = p3
 each-four P p0 p1 p2 p3 (suc (suc (suc (suc i)))) h = absurd (omega arith)
+
+pub minus_words : (xs ys ws : List ℕ) → Made lacking xs ys ws → ((i : ℕ) → i < 4 → get_or ys i 0 < 2 ^ 64)
+    → (k : ℕ) → member ws k ≡ (member xs k && not (member ys k))
+minus_words xs ys ws made fits =
+    words-made lacking (λ a b. a && not b) refl xs ys ws made
+    (λ i j hi hj. bit-and (get_or xs i 0) _ j ∙ ap (λ b. bit (get_or xs i 0) j && b) (bit_not 64 (get_or ys i 0) j (fits i hi) hj))
 
 -- ---- the least set digit from a place on, by `word >> from`
 
