@@ -27,8 +27,8 @@ fn pairings_of<M: Map>(from: &M) -> u32
     ensures { result ≡ pair_count (M.Map.meaning from.now) }
 {
     let mut total = 0;
-    for a in 0..256u16 {
-        total += u32::from(from.listeners(a as u8).len());
+    for a in 0..=u8::MAX {
+        total += u32::from(from.listeners(a).len());
     }
     total
 }
@@ -40,10 +40,9 @@ fn put_units<M: Map, S: Store>(from: &M, into: &mut S) -> Result<(), StoreFault>
     ensures left { S.Map.meaning into.new ≡ unpaired (M.Map.meaning from.now) }
 {
     from.sound();
-    let mut c = 0;
-    while let Some(u) = from.least_unit_above(c) {
+    let units = from.units();
+    for u in units.iter() {
         into.put(u)?;
-        c = u;
     }
     Ok(())
 }
@@ -56,8 +55,8 @@ fn join_rows<M: Map, S: Store>(from: &M, into: &mut S) -> Result<(), StoreFault>
     ensures left { S.Map.meaning into.new ≡ M.Map.meaning from.now }
 {
     from.sound();
-    for a in 0..256u16 {
-        join_row(from, a as u8, into)?;
+    for a in 0..=u8::MAX {
+        join_row(from, a, into)?;
     }
     Ok(())
 }
@@ -70,10 +69,9 @@ fn join_row<M: Map, S: Store>(from: &M, a: u8, into: &mut S) -> Result<(), Store
     ensures left { S.Map.meaning into.new ≡ rows_below (a + 1) (M.Map.meaning from.now) }
 {
     from.sound();
-    let mut c = 0;
-    while let Some(b) = from.least_listener_above(a, c) {
+    let listeners = from.listeners(a);
+    for b in listeners.iter() {
         into.join(a, b)?;
-        c = b;
     }
     Ok(())
 }

@@ -13,9 +13,11 @@ use units::UnitSet;
 
 mod copy;
 mod fault;
+mod gathering;
 
 pub use copy::copy_map;
 pub use fault::StoreFault;
+use gathering::gathered;
 
 // The questions that any map answers. About a number that is no unit it says no, or none, since no pairing has it.
 pub trait Map {
@@ -50,13 +52,7 @@ pub trait Map {
         ensures { (k : ℕ) → has result k ≡ (meaning self.now).unit k }
     {
         self.sound();
-        let mut all = UnitSet::empty();
-        let mut c = 0;
-        while let Some(u) = self.least_unit_above(c) {
-            all.insert(u);
-            c = u;
-        }
-        all
+        gathered(|c| self.least_unit_above(c))
     }
 
     // The units that a is paired to.
@@ -64,13 +60,7 @@ pub trait Map {
         ensures { (k : ℕ) → has result k ≡ (meaning self.now).pair a k }
     {
         self.sound();
-        let mut all = UnitSet::empty();
-        let mut c = 0;
-        while let Some(b) = self.least_listener_above(a, c) {
-            all.insert(b);
-            c = b;
-        }
-        all
+        gathered(|c| self.least_listener_above(a, c))
     }
 
     // The units that are paired to b.
@@ -78,13 +68,7 @@ pub trait Map {
         ensures { (k : ℕ) → has result k ≡ (meaning self.now).pair k b }
     {
         self.sound();
-        let mut all = UnitSet::empty();
-        let mut c = 0;
-        while let Some(a) = self.least_source_above(b, c) {
-            all.insert(a);
-            c = a;
-        }
-        all
+        gathered(|c| self.least_source_above(b, c))
     }
 }
 

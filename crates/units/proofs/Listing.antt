@@ -1,8 +1,8 @@
 -- The members of a set as a list: what comes first on it, and that just the members are on it.
-use Rattle.std.proofs.Common.{◌≡◌, ℕ, zero, suc, ◌+◌, ◌<◌, ◌≤◌, Bool, true, false, not, ◌&&◌, ◌||◌, cond, eqb, List, [], ◌∷◌, ◌++◌, filter, Option, Some, None, append-nil, sym, refl, ap, ◌∙◌, ap₂, subst, inl, inr, arith}
+use Rattle.std.proofs.Common.{◌≡◌, ℕ, zero, suc, ◌+◌, ◌<◌, ◌≤◌, Bool, true, false, not, ◌&&◌, ◌||◌, cond, eqb, List, [], ◌∷◌, ◌++◌, length, get_or, drop, filter, Option, Some, None, append-nil, sym, refl, ap, ◌∙◌, ap₂, subst, inl, inr, arith}
 use Rattle.std.specs.List.{range_with_len}
 use Rattle.std.specs.Iterator.{Yields, YieldsFirst}
-use Rattle.std.proofs.lemmas.Bool.{cases_lt, cases_eq, cases_Bool, ne_eqb, eq-eqb}
+use Rattle.std.proofs.lemmas.Bool.{both_ways, cases_lt, cases_eq, cases_Bool, ne_eqb, eq-eqb}
 use Rattle.theory.specs.Maps.{listed}
 use Rattle.units.specs.Has.{has}
 use Rattle.units.specs.Listed.{members, left}
@@ -123,3 +123,28 @@ listed-within x (z ∷ xs) ys = elim (cases_Bool (eqb x z)) [
 
 pub next-member : (s : UnitSet) (xs ys : List ℕ) (x : ℕ) → members s ≡ xs ++ x ∷ ys → has s x ≡ true
 next-member s xs ys x e = sym (listed-members s x) ∙ ap (listed x) e ∙ listed-within x xs ys
+
+-- the list rises, so that no member comes twice
+fresh-passing : (f : ℕ → Bool) (from n : ℕ) (xs ys : List ℕ) (x : ℕ) → passing f from n ≡ xs ++ x ∷ ys → listed x xs ≡ false
+fresh-passing f from zero [] ys x e = refl
+fresh-passing f from zero (y ∷ xs) ys x e = let z : 0 ≡ suc (length (xs ++ x ∷ ys)) = ap length e in absurd (omega (arith, z))
+fresh-passing f from (suc n) xs ys x e = at (f from) xs (λ zs q. fresh-passing f (from + 1) n zs ys x q) e
+  where
+    at : (b : Bool) (zs : List ℕ) → ((zs : List ℕ) → passing f (from + 1) n ≡ zs ++ x ∷ ys → listed x zs ≡ false)
+        → cond b (from ∷ passing f (from + 1) n) (passing f (from + 1) n) ≡ zs ++ x ∷ ys → listed x zs ≡ false
+    at false zs ih q = ih zs q
+    at true [] ih q = refl
+    at true (z ∷ zs) ih q =
+        let head : from ≡ z = ap (λ l. get_or l 0 0) q in
+        let tail : passing f (from + 1) n ≡ zs ++ x ∷ ys = ap (drop 1) q in
+        let later : (x ≡ z → ⊥) = λ same. both_ways (listed x (passing f (from + 1) n))
+            (before-passing f (from + 1) n x (omega (arith, head, same))) (ap (listed x) tail ∙ listed-within x zs ys) in
+        ap (λ b. b || listed x zs) (ne_eqb x z later) ∙ ih zs tail
+
+-- In a loop over a set: the next item is a member, and is none of the items so far.
+pub next-turn : (s : UnitSet) (it : Members) → left it ≡ members s → (xs : List ℕ) (t u : Members) (r : Option ℕ) (x : ℕ)
+    → Yields (YieldsFirst left) it xs t → r ≡ Some x → YieldsFirst left t r u → (has s x ≡ true) × (listed x xs ≡ false)
+unfolding members
+next-turn s it e xs t u r x so-far some step =
+    let next = next-given s it e xs t u r x so-far some step in
+    (next-member s xs (left u) x next, fresh-passing (has s) 0 256 xs (left u) x next)

@@ -1,10 +1,6 @@
 use Rattle.std.proofs.Common.{rules}
-use Rattle.theory.specs.Maps.{turned}
-use Rattle.theory.proofs.Maps.{turned-sound}
-use Rattle.maps.proofs.Asked.{zero-not-listening}
+use Rattle.maps.proofs.Asked.{zero_no_source}
 use Rattle.maps.proofs.Map.sources.Goals as goal
 
-pub loop-a-init : goal.loop-a-init
-loop-a-init g c =
-    let none = zero-not-listening (turned (g.Self.Map.meaning c.args.self.now)) (turned-sound _ c.sound.ensures) c.args.b in
-    search rules
+pub returns : goal.returns
+returns g c = let m = g.Self.Map.meaning c.args.self.now in c.gathered.ensures (λ a. m.pair a c.args.b) (zero_no_source m c.sound.ensures c.args.b) (λ x r p. search rules)

@@ -3,7 +3,7 @@ use Rattle.std.proofs.lemmas.List.{at_drop_all}
 use Rattle.units.specs.Has.{has}
 use Rattle.theory.specs.Lists.{sum}
 use Rattle.theory.proofs.Counting.{count_same}
-use Rattle.maps.proofs.Asked.{zero-not-listening}
+use Rattle.maps.proofs.Asked.{zero_not_listening}
 use Rattle.plain.specs.Saving.{ascending, chain_bytes, pairing_bytes}
 use Rattle.page_laws.proofs.Sums.{length-ascending}
 use Rattle.page_laws.proofs.Writing.{written, pairing-next, sum-next, sum-end, all-written, same-ascending}
@@ -32,8 +32,8 @@ loop-u-preserved g c =
     let left = sum-next (λ u. length (ascending (m.pair u))) order i h in
     let list = same-ascending (has c.listeners-listeners.result) (m.pair u) c.listeners-listeners.ensures in
     let size : length (ascending (has c.listeners-listeners.result)) ≡ length (ascending (m.pair u)) = ap length list in
-    let many = c.len.ensures.number ∙ count_same _ (m.pair u) c.listeners-listeners.ensures ∙ sym (length-ascending (m.pair u) (zero-not-listening m c.sound.ensures u)) in
-    let again = c.len-at.ensures.number ∙ count_same _ (m.pair u) c.listeners-listeners.ensures ∙ sym (length-ascending (m.pair u) (zero-not-listening m c.sound.ensures u)) in
+    let many = c.len.ensures.number ∙ count_same _ (m.pair u) c.listeners-listeners.ensures ∙ sym (length-ascending (m.pair u) (zero_not_listening m c.sound.ensures u)) in
+    let again = c.len-at.ensures.number ∙ count_same _ (m.pair u) c.listeners-listeners.ensures ∙ sym (length-ascending (m.pair u) (zero_not_listening m c.sound.ensures u)) in
     let inv = c.loop-u.invariant in
     let place : c.loop-u.to + 3 * c.len.result ≡ c.loop-u.to + 3 * length (ascending (has c.listeners-listeners.result)) = omega arith in (
       ap (λ (n : ℕ). take (c.loop-u.to + 3 * c.len.result) c.write_chain.new.page ++ pairing_bytes m.pair (c.loop-u.at + n) (drop (i + 1) order)) again

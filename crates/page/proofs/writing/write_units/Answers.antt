@@ -1,7 +1,7 @@
 use Rattle.std.proofs.Common.{◌≡◌, ℕ, ◌+◌, ◌*◌, cond, eqb, List, ◌++◌, length, get_or, take, drop, sym, ap, ◌∙◌, arith}
 use Rattle.std.proofs.lemmas.List.{at_drop_all}
 use Rattle.theory.proofs.Counting.{count_same}
-use Rattle.maps.proofs.Asked.{zero-not-listening}
+use Rattle.maps.proofs.Asked.{zero_not_listening}
 use Rattle.plain.specs.Saving.{ascending, record_bytes, next_index, unit_bytes}
 use Rattle.page_laws.proofs.Sums.{length-ascending}
 use Rattle.page_laws.proofs.Writing.{written, index-count, unit-next, sum-next, all-written}
@@ -15,7 +15,7 @@ loop-i-preserved g c =
     let u = get_or order i 0 in
     let h = c.loop-i-test.true in
     let many : c.len-count.result ≡ length (ascending (m.pair u)) =
-    c.len-count.ensures.number ∙ count_same _ (m.pair u) c.listeners.ensures ∙ sym (length-ascending (m.pair u) (zero-not-listening m c.sound.ensures u)) in
+    c.len-count.ensures.number ∙ count_same _ (m.pair u) c.listeners.ensures ∙ sym (length-ascending (m.pair u) (zero_not_listening m c.sound.ensures u)) in
     let place : 4 + 3 * (i + 1) ≡ (4 + 3 * i) + 3 = omega arith in
     let index : c.index_of.result ≡ next_index c.loop-i.at (ascending (m.pair u)) =
     c.index_of.ensures ∙ ap (λ (n : ℕ). cond (eqb n 0) 0 c.loop-i.at) many ∙ sym (index-count c.loop-i.at (ascending (m.pair u))) in

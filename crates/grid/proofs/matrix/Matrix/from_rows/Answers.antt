@@ -1,6 +1,6 @@
 -- A sound map has no pairing to 0, and sets that tell it make a matrix.
 use Rattle.std.proofs.Common.{refl}
-use Rattle.maps.proofs.Asked.{zero-not-listening}
+use Rattle.maps.proofs.Asked.{zero_not_listening}
 use Rattle.grid.specs.Rows.{map_of}
 use Rattle.grid.proofs.Kept.{kept}
 use Rattle.grid.proofs.matrix.Matrix.from_rows.Goals as goal
@@ -11,4 +11,4 @@ invariant_of-result c =
     record { zero = k.zero; from = k.from; to = k.to; apart = k.apart; turned = k.turned }
 
 pub transposed-sources-requires : goal.transposed-sources-requires
-transposed-sources-requires c = zero-not-listening (map_of c.args.units c.args.listeners) c.requires
+transposed-sources-requires c = zero_not_listening (map_of c.args.units c.args.listeners) c.requires
