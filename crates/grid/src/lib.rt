@@ -8,6 +8,7 @@ ghost use Rattle.grid.specs.Rows.{map_of};
 ghost use Rattle.grid.specs.Meaning.{matrix_map};
 ghost use Rattle.grid.specs.Held.{grid_map};
 
+use layers::Turned;
 use maps::{Map, Store, StoreFault};
 use units::{UnitSet, empty_rows};
 
@@ -16,7 +17,7 @@ mod rows;
 mod table;
 
 pub use matrix::Matrix;
-use rows::{insert_at, listener_rows, remove_among, remove_at, source_rows, transposed};
+use rows::{insert_at, listener_rows, remove_among, remove_at, transposed};
 pub use table::Grid;
 
 impl Matrix {
@@ -38,7 +39,7 @@ impl Matrix {
         Matrix {
             units: m.units(),
             listeners: listener_rows(m),
-            sources: source_rows(m),
+            sources: listener_rows(&Turned::over(m)),
         }
     }
 

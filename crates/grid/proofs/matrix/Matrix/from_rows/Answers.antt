@@ -1,6 +1,5 @@
--- A sound map has no pairing to 0, and sets that tell it make a matrix.
+-- Sets that tell a sound map make a matrix.
 use Rattle.std.proofs.Common.{refl}
-use Rattle.maps.proofs.Asked.{zero_not_listening}
 use Rattle.grid.specs.Rows.{map_of}
 use Rattle.grid.proofs.Kept.{kept}
 use Rattle.grid.proofs.matrix.Matrix.from_rows.Goals as goal
@@ -9,6 +8,3 @@ pub invariant_of-result : goal.invariant_of-result
 invariant_of-result c =
     let k = kept (map_of c.args.units c.args.listeners) c.args.units c.args.listeners c.transposed-sources.result c.requires (λ k. refl) (λ x y. refl) c.transposed-sources.ensures in
     record { zero = k.zero; from = k.from; to = k.to; apart = k.apart; turned = k.turned }
-
-pub transposed-sources-requires : goal.transposed-sources-requires
-transposed-sources-requires c = zero_not_listening (map_of c.args.units c.args.listeners) c.requires
