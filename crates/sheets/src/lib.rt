@@ -12,8 +12,8 @@ ghost use Rattle.sheets.specs.Sheets.{wiped, marked, Clean};
 
 use layers::Hiding;
 use maps::Map;
-use marked_walks::{Marks, fewest_pairings};
 use units::UnitSet;
+use walks::{Marks, fewest_pairings_marking};
 
 // Takes the marks off: each byte is its off mark again.
 fn wipe(sheet: &mut [u8])
@@ -118,5 +118,5 @@ pub fn reach<M: Map>(m: &M, s: u8, t: u8, sheet: &mut [u8]) -> Option<u16>
 {
     let open = Hiding::without(m, off_units(sheet));
     let mut marks = SheetMarks { sheet };
-    fewest_pairings(&open, s, t, &mut marks)
+    fewest_pairings_marking(&open, s, t, &mut marks)
 }

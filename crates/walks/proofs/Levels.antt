@@ -1,12 +1,12 @@
 -- A search for the shortest chain on its way: its level is what is n pairings from s, and no fewer.
 use Rattle.std.proofs.Common.{◌≡◌, ℕ, suc, ◌+◌, ◌<◌, ◌≤◌, Bool, true, false, not, ◌||◌, eqb, ◌⊎◌, List, [], ◌∷◌, ◌++◌, length, Some, None, sym, refl, ap, ◌∙◌, subst, inl, inr, arith, length-append}
-use Rattle.std.proofs.lemmas.Bool.{cases_Bool, cases_lt, eqb-true, both_ways}
+use Rattle.std.proofs.lemmas.Bool.{cases_Bool, cases_lt, eqb-true, both_ways, or_right}
 use Rattle.theory.specs.Maps.{Map, Sound}
-use Rattle.theory.specs.Chains.{Onward, Chain}
+use Rattle.theory.specs.Chains.{Onward, Chain, FewestOrNone}
 use Rattle.theory.proofs.Tests.{passes, passed}
-use Rattle.theory.proofs.Counting.{count_most}
-use Rattle.theory.proofs.Chains.{onward-append}
-use Rattle.walks.specs.Levels.{Next, Fewest}
+use Rattle.theory.proofs.Counting.{count_most, count-falls}
+use Rattle.theory.proofs.Chains.{onward-append, heard-last}
+use Rattle.walks.specs.Levels.{Next}
 use Rattle.walks.proofs.Walked.{Walked, left, walked_start, walked_more, left-falls, old, spread, before, onward-seen}
 
 pub record Level (m : Map) (s t n : ℕ) (seen level : ℕ → Bool) : Type 0 where
@@ -21,20 +21,25 @@ pub record Level (m : Map) (s t n : ℕ) (seen level : ℕ → Bool) : Type 0 wh
   pub not_yet : (k : ℕ) → seen k ≡ true → level k ≡ false → k ≡ t → ⊥
   pub few : n + left seen level ≤ 256
 
-pub level-start : (m : Map) (s t : ℕ) (seen : ℕ → Bool) → m.unit s ≡ true → ((k : ℕ) → seen k ≡ eqb k s) → Level m s t 0 seen seen
-level-start m s t seen on only =
-    let w = walked_start m s seen on only in
-    record {
+-- the start: nothing was marked, and then what the level has
+pub level-start : (m : Map) (s t : ℕ) (seen level : ℕ → Bool) → m.unit s ≡ true → (before : ℕ → Bool) → ((k : ℕ) → before k ≡ false) →
+    ((k : ℕ) → seen k ≡ (before k || level k)) → ((k : ℕ) → level k ≡ eqb k s) → Level m s t 0 seen level
+level-start m s t seen level on before none marked only =
+    let same : level ≡ seen = λ i k. (sym (marked k ∙ ap (λ (b : Bool). b || level k) (none k))) i in
+    subst (λ (f : ℕ → Bool). Level m s t 0 f level) same (record {
       walked = w;
       reached = λ k l. ([], sym (eqb-true k s (sym (only k) ∙ l)), refl);
       near = λ k c o h. at k c o h w.start;
       nearer = λ k c o h. absurd (omega arith);
       not_yet = λ k t f _. both_ways _ f t;
-      few = let most = count_most (λ k. not (seen k) || seen k) in omega arith;
-    }
+      few = let most = count_most (λ k. not (level k) || level k) in omega arith;
+    })
   where
-    at : (k : ℕ) (c : List ℕ) → Onward m s c k → length c ≤ 0 → seen s ≡ true → seen k ≡ true
-    at k [] o h on = subst (λ (z : ℕ). seen z ≡ true) o on
+    w : Walked m s level level
+    w = walked_start m s level on only
+
+    at : (k : ℕ) (c : List ℕ) → Onward m s c k → length c ≤ 0 → level s ≡ true → level k ≡ true
+    at k [] o h on = subst (λ (z : ℕ). level z ≡ true) o on
     at k (x ∷ c) o h on = absurd (omega arith)
 
 -- the last pairing of a chain
@@ -82,7 +87,7 @@ module _ (m : Map) (sound : Sound m) (s t n : ℕ) (seen level next seen' : ℕ 
       )
 
 -- the level that has t in it
-pub level-found : (m : Map) (s t n : ℕ) (seen level : ℕ → Bool) → m.unit s ≡ true → Level m s t n seen level → level t ≡ true → Fewest m s t (Some n)
+pub level-found : (m : Map) (s t n : ℕ) (seen level : ℕ → Bool) → m.unit s ≡ true → Level m s t n seen level → level t ≡ true → FewestOrNone m s t (Some n)
 level-found m s t n seen level unit l on =
     let (c, o, e) = l.reached t on in
     ((s ∷ c, (refl, passes _ unit, o), omega arith), shortest)
@@ -91,8 +96,16 @@ level-found m s t n seen level unit l on =
     shortest [] h = absurd h
     shortest (x ∷ d) h = elim (cases_lt (length d) n) [ inl less ↦ absurd (both_ways _ (l.nearer t d h.2 less) on) | inr more ↦ omega arith ]
 
+-- and then it is at most 255 pairings away, since there are no more than 256 numbers
+pub level-short : (m : Map) → Sound m → (s t n : ℕ) (seen level : ℕ → Bool) → Level m s t n seen level → level t ≡ true → n ≤ 255
+level-short m sound s t n seen level l on =
+    let few = l.few in
+    let high = sound.high t (heard-last m sound s t (l.walked.heard t (l.walked.within t on))) in
+    let some = count-falls (λ k. false) (λ k. not (seen k) || level k) t (omega arith) (λ k e. absurd (both_ways false refl e)) refl (or_right _ _ on) in
+    omega arith
+
 -- no level is left
-pub level-none : (m : Map) → Sound m → (s t n : ℕ) (seen level : ℕ → Bool) → Level m s t n seen level → ((k : ℕ) → level k ≡ false) → Fewest m s t None
+pub level-none : (m : Map) → Sound m → (s t n : ℕ) (seen level : ℕ → Bool) → Level m s t n seen level → ((k : ℕ) → level k ≡ false) → FewestOrNone m s t None
 level-none m sound s t n seen level l done [] h = h
 level-none m sound s t n seen level l done (x ∷ c) h =
     l.not_yet t (onward-seen m sound s seen level l.walked done s t c l.walked.start h.2) (done t) refl

@@ -14,13 +14,13 @@ loop-level-init g c =
 pub loop-level-smaller : goal.loop-level-smaller
 loop-level-smaller g c =
     let some = c.loop-level-test.ensures in
-    left-falls (g.M.Map.meaning c.args.m.now) c.sound.ensures c.args.s (has c.loop-level.seen) (has c.loop-level.level) (has c.next_level-level.result) (has c.union-seen.result)
-    c.next_level-level.ensures c.union-seen.ensures c.loop-level.invariant some.0 some.1
+    left-falls (g.M.Map.meaning c.args.m.now) c.sound.ensures c.args.s (has c.loop-level.seen) (has c.loop-level.level) (has c.next_level-level.result) (has c.next_level-level.new.seen)
+    c.next_level-level.ensures.next c.next_level-level.ensures.seen c.loop-level.invariant some.0 some.1
 
 pub loop-level-preserved : goal.loop-level-preserved
 loop-level-preserved g c =
-    walked_more (g.M.Map.meaning c.args.m.now) c.sound.ensures c.args.s (has c.loop-level.seen) (has c.loop-level.level) (has c.next_level-level.result) (has c.union-seen.result)
-    c.next_level-level.ensures c.union-seen.ensures c.loop-level.invariant
+    walked_more (g.M.Map.meaning c.args.m.now) c.sound.ensures c.args.s (has c.loop-level.seen) (has c.loop-level.level) (has c.next_level-level.result) (has c.next_level-level.new.seen)
+    c.next_level-level.ensures.next c.next_level-level.ensures.seen c.loop-level.invariant
 
 pub returns : goal.returns
 returns g c =

@@ -1,9 +1,9 @@
 use Rattle.std.proofs.Common.{◌+◌, ◌<◌, sym, refl, ◌∙◌}
 use Rattle.units.specs.Has.{has}
 use Rattle.walks.proofs.Walked.{left}
-use Rattle.marked_walks.proofs.Levels.{Level, level-start, level-more, level-found, level-short, level-none}
-use Rattle.marked_walks.proofs.fewest_pairings.Given as given
-use Rattle.marked_walks.proofs.fewest_pairings.Goals as goal
+use Rattle.walks.proofs.Levels.{Level, level-start, level-more, level-found, level-short, level-none}
+use Rattle.walks.proofs.fewest_pairings_marking.Given as given
+use Rattle.walks.proofs.fewest_pairings_marking.Goals as goal
 
 pub loop-level-init : goal.loop-level-init
 loop-level-init g c = (

@@ -1,8 +1,8 @@
 use Rattle.std.proofs.Common.{◌≡◌}
 use Rattle.units.specs.Has.{has}
 use Rattle.walks.proofs.Walked.{left}
-use Rattle.marked_walks.proofs.Levels.{Level}
-use Rattle.marked_walks.proofs.fewest_pairings.Given as goal
+use Rattle.walks.proofs.Levels.{Level}
+use Rattle.walks.proofs.fewest_pairings_marking.Given as goal
 
 abbrev pub invariant-loop-level : goal.invariant-loop-level
 invariant-loop-level g l =
