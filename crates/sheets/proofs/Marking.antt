@@ -1,6 +1,8 @@
 -- The units of a set marked one after another: the mark of one more unit.
-use Rattle.std.proofs.Common.{◌≡◌, ℕ, ◌+◌, ◌-◌, ◌%◌, ◌<◌, ◌≤◌, Bool, true, false, ◌&&◌, ◌||◌, leb, ◌≢◌, ◌⊎◌, List, length, get_or, set, sym, ap, ◌∙◌, inl, inr, ⊎_elim, arith, get_or-set_other, get_or-set_same}
-use Rattle.std.proofs.lemmas.Bool.{cases_eq, cases_lt, le-leb, lt-leb, and_left, and_right, and_from, or_right}
+use Rattle.std.proofs.Common.{◌≡◌, ℕ, ◌+◌, ◌-◌, ◌%◌, ◌<◌, ◌≤◌, Bool, true, false, ◌&&◌, ◌||◌, leb, ◌≢◌, ◌⊎◌, List, [], ◌∷◌, ◌++◌, length, get_or, set, sym, ap, ◌∙◌, inl, inr, arith, get_or-set_other, get_or-set_same}
+use Rattle.std.proofs.lemmas.Bool.{both_ways, cases_eq, cases_lt, eq-eqb, ne_eqb, le-leb, lt-leb, and_left, and_from, or_left, or_right}
+use Rattle.theory.specs.Maps.{listed}
+use Rattle.theory.proofs.Distinct.{listed-more}
 use Rattle.sheets.specs.Sheets.{wiped, marked}
 use Rattle.sheets.proofs.Wipes.{wiped-mark}
 
@@ -22,20 +24,19 @@ module _ (sheet : List ℕ) (u : ℕ) (low : 1 ≤ u) (high : u ≤ length sheet
       let apart : k - 1 ≢ u - 1 = λ e. ne (omega arith) in
       ap (λ (x : ℕ). leb 1 k && leb 2 x) (get_or-set_other sheet (u - 1) (k - 1) (get_or sheet (u - 1) 0 % 2 + 2) 0 apart)
 
--- those of the set up to c are marked, and then u, the next of the set
-module _ (entry sheet : List ℕ) (units : ℕ → Bool) (c u : ℕ) (above : c + 1 ≤ u) (on : units u ≡ true) (between : (k : ℕ) → c + 1 ≤ k → k < u → units k ≡ false)
-    (small : u ≤ length sheet) (done : (k : ℕ) → marked sheet k ≡ (marked entry k || (leb k c && units k))) where
-  -- the marks up to c and up to u differ at u alone
-  same : (k : ℕ) → k ≢ u → (k < c + 1) ⊎ (c + 1 ≤ k) → (k < u) ⊎ (u ≤ k) → (leb k c && units k) ≡ (leb k u && units k)
-  same k ne (inl less) _ = ap (λ (b : Bool). b && units k) (le-leb k c (omega arith) ∙ sym (le-leb k u (omega arith)))
-  same k ne (inr more) (inl less) = and_left (leb k c) (units k) (lt-leb k c (omega arith)) ∙ sym (and_right (leb k u) (units k) (between k more less))
-  same k ne (inr more) (inr past) = and_left (leb k c) (units k) (lt-leb k c (omega arith)) ∙ sym (and_left (leb k u) (units k) (lt-leb k u (omega (arith, ne))))
-
-  pub marks-more : (k : ℕ) → marked (with_mark sheet u) k ≡ (marked entry k || (leb k u && units k))
-  marks-more k = ⊎_elim
-      (λ e. marked-here sheet u (omega arith) small k e ∙ sym (or_right (marked entry k) _ (and_from _ _ (le-leb k u (omega arith)) (ap units e ∙ on))))
-      (λ ne. marked_other sheet u (omega arith) small k ne (cases_lt k 1) ∙ done k ∙ ap (λ (b : Bool). marked entry k || b) (same k ne (cases_lt k (c + 1)) (cases_lt k u)))
-      (cases_eq k u)
+-- the units on the list are marked, and then u
+module _ (entry sheet : List ℕ) (us : List ℕ) (u : ℕ) (low : 1 ≤ u) (high : u ≤ length sheet) (done : (k : ℕ) → marked sheet k ≡ (marked entry k || listed k us)) where
+  pub marks-more : (k : ℕ) → marked (with_mark sheet u) k ≡ (marked entry k || listed k (us ++ u ∷ []))
+  marks-more k = elim (cases_eq k u) [
+    | inl e ↦ marked-here sheet u low high k e ∙ sym (or_right (marked entry k) _ (listed-more k us u ∙ or_left _ _ (eq-eqb k u e)))
+    | inr ne ↦
+        marked_other sheet u low high k ne (cases_lt k 1) ∙ done k
+        ∙ ap (λ b. marked entry k || b) (sym (listed-more k us u ∙ ap (λ b. b || listed k us) (ne_eqb k u ne)))
+  ]
 
   pub below_more : wiped sheet ≡ wiped entry → wiped (with_mark sheet u) ≡ wiped entry
   below_more e = wiped-mark sheet (u - 1) (get_or sheet (u - 1) 0 % 2 + 2) (omega arith) (omega arith) ∙ e
+
+-- a member is no zero, where the set has none
+pub above-zero : (f : ℕ → Bool) → f 0 ≡ false → (u : ℕ) → f u ≡ true → 1 ≤ u
+above-zero f none u on = elim (cases_eq u 0) [ inl e ↦ absurd (both_ways _ none (ap f (sym e) ∙ on)) | inr ne ↦ omega (arith, ne) ]

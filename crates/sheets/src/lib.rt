@@ -45,12 +45,10 @@ fn unmarked_of(sheet: &[u8], set: &UnitSet) -> UnitSet
     ensures { (k : ℕ) → has result k ≡ (has set.now k && not (marked sheet.now k)) }
 {
     let mut rest = *set;
-    let mut c = 0;
-    while let Some(u) = set.least_above(c) {
-        if sheet[u as usize - 1] >= 2 {
-            rest.remove(u);
+    for (i, byte) in sheet.iter().enumerate() {
+        if *byte >= 2 {
+            rest.remove(i as u8 + 1);
         }
-        c = u;
     }
     rest
 }
@@ -61,11 +59,9 @@ impl Marks for SheetMarks<'_> {
     ghost below = { λ g. (g.sheet.ghost_name, wiped g.sheet.now) };
 
     fn mark(&mut self, set: &UnitSet) {
-        let mut c = 0;
-        while let Some(u) = set.least_above(c) {
+        for u in set.iter() {
             let place = u as usize - 1;
             self.sheet[place] = self.sheet[place] % 2 + 2;
-            c = u;
         }
     }
 
@@ -80,9 +76,9 @@ fn off_units(sheet: &[u8]) -> UnitSet
     ensures { (u : ℕ) → has result u ≡ off sheet.now u }
 {
     let mut all = UnitSet::empty();
-    for i in 0..255u8 {
-        if sheet[i as usize] == 1 {
-            all.insert(i + 1);
+    for (i, byte) in sheet.iter().enumerate() {
+        if *byte == 1 {
+            all.insert(i as u8 + 1);
         }
     }
     all
@@ -99,12 +95,7 @@ pub fn is_lawful(sheet: &[u8]) -> bool
 fn low_bytes(sheet: &[u8]) -> bool
     ensures { not result ≡ some (λ b. nat_lt 1 b) sheet.now }
 {
-    for b in sheet {
-        if *b > 1 {
-            return false;
-        }
-    }
-    true
+    !sheet.iter().any(|b| *b > 1)
 }
 
 // The fewest pairings of a chain from s to t that has no unit which is off, both ends included; none where there is no such
