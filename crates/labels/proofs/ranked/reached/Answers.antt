@@ -4,7 +4,7 @@ use Rattle.units.specs.Has.{has}
 use Rattle.labels.specs.Holding.{holds}
 use Rattle.labels.specs.Asked.{covered}
 use Rattle.labels.proofs.Reached.{all-hearers, all-heard}
-use Rattle.labels.proofs.hearing.reached.Goals as goal
+use Rattle.labels.proofs.ranked.reached.Goals as goal
 
 both : (r a b x y : Bool) → r ≡ (a || b) → a ≡ x → b ≡ y → r ≡ (x || y)
 both r a b x y e p q = e ∙ ap₂ (λ v w. v || w) p q

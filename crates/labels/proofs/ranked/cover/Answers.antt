@@ -4,8 +4,8 @@ use Rattle.units.specs.Has.{has}
 use Rattle.labels.specs.Holding.{holds}
 use Rattle.labels.specs.Asked.{covered}
 use Rattle.labels.proofs.Gathered.{gathered-more, gathered-end, skipped, joined}
-use Rattle.labels.proofs.hearing.cover.Goals as goal
-use Rattle.labels.proofs.hearing.cover.Goals.{then-holds, else-holds}
+use Rattle.labels.proofs.ranked.cover.Goals as goal
+use Rattle.labels.proofs.ranked.cover.Goals.{then-holds, else-holds}
 
 pub loop-w-preserved : goal.loop-w-preserved
 loop-w-preserved c y =
