@@ -1,5 +1,6 @@
 pub mod Picked
 pub mod Compared
 pub mod Gathered
+pub mod Told
 pub mod Reached
 pub mod Written

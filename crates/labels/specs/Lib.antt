@@ -1,3 +1,4 @@
 pub mod Holding
 pub mod Asked
 pub mod Listed
+pub mod OfMaps

@@ -8,11 +8,11 @@ ghost use Rattle.labels.specs.Holding.{holds};
 
 use units::{UnitSet, empty_rows};
 
-mod hearing;
 mod lists;
+mod ranked;
 
-pub use hearing::cover;
-pub use lists::ShortBuffer;
+pub use lists::{List, ShortBuffer};
+pub use ranked::{Ranked, cover};
 
 // A set of units for each unit.
 #[derive(Clone, Copy)]
@@ -55,4 +55,16 @@ impl Holders {
 pub struct Labels {
     pub ins: Holders,
     pub outs: Holders,
+}
+
+impl Labels {
+    // No label.
+    pub fn empty() -> Labels
+        ensures { (u v : ℕ) → (holds result.ins u v ≡ false) × (holds result.outs u v ≡ false) }
+    {
+        Labels {
+            ins: Holders::empty(),
+            outs: Holders::empty(),
+        }
+    }
 }

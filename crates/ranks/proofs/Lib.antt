@@ -1,4 +1,1 @@
-pub mod Tables
-pub mod Shifts
-pub mod Changes
 pub mod Whole

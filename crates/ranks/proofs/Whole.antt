@@ -1,35 +1,150 @@
--- A whole order, taken unit by unit: what grows, and what is refused.
-use Rattle.std.proofs.Common.{◌≡◌, ℕ, ◌+◌, ◌<◌, true, not, ◌&&◌, leb, List, [], ◌∷◌, ◌++◌, length, get_or, take, sym, refl, ap, ◌∙◌, subst, arith}
+-- An order with a unit put in or taken out: it stays lawful, and each number has the rank that it has there.
+use Rattle.std.proofs.Common.{◌≡◌, ℕ, zero, suc, ◌+◌, ◌-◌, ◌<◌, ◌≤◌, true, false, not, ◌&&◌, cond, eqb, leb, ◌⊎◌, ◌↔◌, List, [], ◌∷◌, ◌++◌, length, get_or, take, drop, replicate, Option, Some, None, sym, refl, ap, ◌∙◌, subst, inl, inr, ⊎_elim, arith}
 use Rattle.std.proofs.lemmas.List.{length-take-le, get_or-take, take_more}
-use Rattle.std.proofs.lemmas.Bool.{and_from, le-leb, not_from_false}
+use Rattle.std.specs.List.{remove}
+use Rattle.std.proofs.lemmas.Bool.{and_from, le-leb, not_from_false, cases_Bool, cases_eq, cond-true, cond-false, eq-eqb, ne_eqb}
 use Rattle.theory.specs.Maps.{listed}
 use Rattle.theory.specs.Chains.{On}
-use Rattle.theory.specs.Ranks.{rank_in, inserted}
-use Rattle.theory.proofs.Distinct.{listed-from-off, on-at, at_on, rank-at}
-use Rattle.ranks.specs.Orders.{Lawful}
+use Rattle.theory.specs.Ranks.{rank_in, Once, inserted, removed}
+use Rattle.theory.proofs.Distinct.{listed-from-off, on-from-listed, off-from-listed, on-at, at_on, rank-at, fewer}
+use Rattle.theory.proofs.Ranks.{rank-here, rank-next, removed-here, removed-next, removed-none, on-inserted, once-inserted, on-removed, once-removed, rank-inserted}
+use Rattle.theory.proofs.Tests.{passed}
+use Rattle.theory.proofs.Lists.{listed-on}
+use Rattle.ranks.specs.Orders.{Lawful, rank_found}
+
+pub inserted-is : (k v : ℕ) (xs : List ℕ) → inserted k v xs ≡ take k xs ++ v ∷ drop k xs
+inserted-is zero v xs = refl
+inserted-is (suc k) v [] = refl
+inserted-is (suc k) v (x ∷ xs) = ap (λ l. x ∷ l) (inserted-is k v xs)
 
 pub inserted-last : (v : ℕ) (xs : List ℕ) → inserted (length xs) v xs ≡ xs ++ v ∷ []
 inserted-last v [] = refl
 inserted-last v (x ∷ xs) = ap (λ l. x ∷ l) (inserted-last v xs)
 
+-- what stands at k is taken out
+pub removed-is : (k : ℕ) (xs : List ℕ) → Once xs → k < length xs → removed (get_or xs k 0) xs ≡ take k xs ++ drop (suc k) xs
+removed-is k [] once h = absurd (omega arith)
+removed-is zero (x ∷ xs) once h = removed-here x xs x refl ∙ removed-none x xs once.0
+removed-is (suc k) (x ∷ xs) once h =
+    removed-next x xs (get_or xs k 0) (λ e. once.0 (subst (λ (z : ℕ). On z xs) (sym e) (on-at xs k (omega arith)))) ∙ ap (λ l. x ∷ l) (removed-is k xs once.1 (omega arith))
+
+pub insert_lawful : (k u : ℕ) (order : List ℕ) → 1 ≤ u → u ≤ 255 → listed u order ≡ false → Lawful order → Lawful (inserted k u order)
+insert_lawful k u order one most off law = record {
+  low = λ w o. ⊎_elim (λ e. omega arith) (law.low w) ((on-inserted k u order w).0 o);
+  high = λ w o. ⊎_elim (λ e. omega arith) (law.high w) ((on-inserted k u order w).0 o);
+  once = once-inserted k u order law.once (off-from-listed u order off);
+}
+
+pub remove_lawful : (u : ℕ) (order : List ℕ) → Lawful order → Lawful (removed u order)
+remove_lawful u order law = record {
+  low = λ w o. law.low w ((on-removed order u w).0 o).0;
+  high = λ w o. law.high w ((on-removed order u w).0 o).0;
+  once = once-removed order u law.once;
+}
+
+-- a unit that is not in the order finds room
+pub room : (u : ℕ) (order : List ℕ) → Lawful order → 1 ≤ u → u ≤ 255 → listed u order ≡ false → length order < 255
+room u order law one most off = fewer 255 order law.once law.low law.high u one most (off-from-listed u order off)
+
+-- a unit that was taken out is not in the order
+pub gone : (u : ℕ) (order : List ℕ) → listed u (removed u order) ≡ false
+gone u order = listed-from-off u (removed u order) (λ o. ((on-removed order u u).0 o).1 refl)
+
+-- a unit stands in the order at its rank, counted from 1: what stands there is taken out with it
+pub record Stands (order : List ℕ) (u rank : ℕ) : Type 0 where
+  pub low : 1 ≤ rank
+  pub within : rank - 1 < length order
+  pub taken : remove order (rank - 1) ≡ removed u order
+
+pub stands : (order : List ℕ) (u rank : ℕ) → Once order → rank_found order u ≡ Some rank → Stands order u rank
+stands order u rank once e = go (cases_Bool (listed u order))
+  where
+    go : (listed u order ≡ true) ⊎ (listed u order ≡ false) → Stands order u rank
+    go (inl t) =
+        let p = at_on order u (on-from-listed u order t) in
+        let same : Some rank ≡ Some (rank_in order u) = sym e ∙ cond-true (listed u order) (Some (rank_in order u)) None t in
+        let is : rank ≡ rank_in order u = cc in
+        let l = p.1 in
+        let at : rank ≡ p.0 + 1 = omega (arith, is, ap (rank_in order) p.2, rank-at order once p.0 l) in
+        let here : get_or order (rank - 1) 0 ≡ u = ap (λ j. get_or order j 0) (omega arith) ∙ p.2 in
+        record {
+          low = omega arith;
+          within = omega arith;
+          taken = sym (removed-is (rank - 1) order once (omega arith)) ∙ ap (λ v. removed v order) here;
+        }
+    go (inr f) =
+        let same : Some rank ≡ None = sym e ∙ cond-false (listed u order) (Some (rank_in order u)) None f in
+        absurd cc
+
+-- a number with no rank is not in the order
+pub not_found : (order : List ℕ) (u : ℕ) → rank_found order u ≡ None → removed u order ≡ order
+not_found order u e = go (cases_Bool (listed u order))
+  where
+    go : (listed u order ≡ true) ⊎ (listed u order ≡ false) → removed u order ≡ order
+    go (inl t) =
+        let same : Some (rank_in order u) ≡ None = sym (cond-true (listed u order) (Some (rank_in order u)) None t) ∙ e in
+        absurd cc
+    go (inr f) = removed-none u order (off-from-listed u order f)
+
+rank-kept : (xs ys : List ℕ) (u : ℕ) → On u xs → rank_in (xs ++ ys) u ≡ rank_in xs u
+rank-kept [] ys u o = absurd o
+rank-kept (x ∷ xs) ys u o = go (cases_eq u x) o (rank-kept xs ys u)
+  where
+    go : (u ≡ x) ⊎ (u ≡ x → ⊥) → On u (x ∷ xs) → (On u xs → rank_in (xs ++ ys) u ≡ rank_in xs u) → rank_in ((x ∷ xs) ++ ys) u ≡ rank_in (x ∷ xs) u
+    go (inl e) q ih = rank-here x (xs ++ ys) u e ∙ sym (rank-here x xs u e)
+    go (inr ne) (inl e) ih = absurd (ne e)
+    go (inr ne) (inr q) ih = rank-next x (xs ++ ys) u ne ∙ ap suc (ih q) ∙ sym (rank-next x xs u ne)
+
+-- one more unit has the rank after all others, and theirs are as they were
+pub found_more : (xs : List ℕ) (v u : ℕ) → (On v xs → ⊥) → rank_found (xs ++ v ∷ []) u ≡ cond (eqb u v) (Some (length xs + 1)) (rank_found xs u)
+found_more xs v u far = go (cases_eq u v) (cases_Bool (listed u xs))
+  where
+    all : List ℕ
+    all = xs ++ v ∷ []
+
+    on : On u all ↔ ((u ≡ v) ⊎ On u xs)
+    on = subst (λ l. On u l ↔ ((u ≡ v) ⊎ On u xs)) (inserted-last v xs) (on-inserted (length xs) v xs u)
+
+    found : On u all → rank_found all u ≡ Some (rank_in all u)
+    found o = cond-true (listed u all) (Some (rank_in all u)) None (passed (listed u all) ((listed-on u all).1 o))
+
+    go : (u ≡ v) ⊎ (u ≡ v → ⊥) → (listed u xs ≡ true) ⊎ (listed u xs ≡ false) → rank_found all u ≡ cond (eqb u v) (Some (length xs + 1)) (rank_found xs u)
+    go (inl e) l =
+        let last : rank_in all v ≡ length xs + 1 = omega (arith, ap (λ l. rank_in l v) (inserted-last v xs), rank-inserted (length xs) v xs far (omega arith)) in
+        found (on.1 (inl e)) ∙ ap (λ w. Some (rank_in all w)) e ∙ ap Some last ∙ sym (cond-true (eqb u v) (Some (length xs + 1)) (rank_found xs u) (eq-eqb u v e))
+    go (inr ne) (inl t) =
+        let o = on-from-listed u xs t in
+        found (on.1 (inr o)) ∙ ap Some (rank-kept xs (v ∷ []) u o) ∙ sym (cond-true (listed u xs) (Some (rank_in xs u)) None t)
+        ∙ sym (cond-false (eqb u v) (Some (length xs + 1)) (rank_found xs u) (ne_eqb u v ne))
+    go (inr ne) (inr f) =
+        let off : listed u all ≡ false = listed-from-off u all (λ o. ⊎_elim ne (off-from-listed u xs f) (on.0 o)) in
+        cond-false (listed u all) (Some (rank_in all u)) None off ∙ sym (cond-false (listed u xs) (Some (rank_in xs u)) None f)
+        ∙ sym (cond-false (eqb u v) (Some (length xs + 1)) (rank_found xs u) (ne_eqb u v ne))
+
+-- no unit has a rank where no order is
+pub nones : (n u : ℕ) → get_or {A = Option ℕ} (replicate n None) u None ≡ None
+nones zero u = refl
+nones (suc n) zero = refl
+nones (suc n) (suc u) = nones n u
+
 pub grown : (units order : List ℕ) (i : ℕ) → i < length units → order ≡ take i units → inserted (length order) (get_or units i 0) order ≡ take (i + 1) units
 grown units order i h e = inserted-last (get_or units i 0) order ∙ ap (λ l. l ++ get_or units i 0 ∷ []) e ∙ sym (take_more units i 0 h)
 
--- each unit of a lawful order is new to the front before it
+-- each unit of an order is new to the front before it
+pub front-off : (units : List ℕ) (i : ℕ) → i < length units → Once units → On (get_or units i 0) (take i units) → ⊥
+front-off units i h once o =
+    let p = at_on (take i units) (get_or units i 0) o in
+    let many = length-take-le i units (omega arith) in
+    let j = p.0 in
+    let l = p.1 in
+    let same : get_or units j 0 ≡ get_or units i 0 = sym (get_or-take i units j 0 (omega arith)) ∙ p.2 in
+    let a = rank-at units once i h in
+    let b = rank-at units once j (omega arith) in
+    omega (arith, ap (rank_in units) same)
+
+-- and is a new unit's number, where the order is lawful
 pub front-new : (units order : List ℕ) (i : ℕ) → i < length units → order ≡ take i units → Lawful units → (leb 1 (get_or units i 0) && not (listed (get_or units i 0) order)) ≡ true
 front-new units order i h e law =
-    and_from (leb 1 u) (not (listed u order)) (le-leb 1 u (law.low u (on-at units i h))) (not_from_false (listed u order) (listed-from-off u order twice))
-  where
-    u : ℕ
-    u = get_or units i 0
-
-    twice : On u order → ⊥
-    twice o =
-        let p = at_on (take i units) u (subst (On u) e o) in
-        let many = length-take-le i units (omega arith) in
-        let j = p.0 in
-        let l = p.1 in
-        let same : get_or units j 0 ≡ u = sym (get_or-take i units j 0 (omega arith)) ∙ p.2 in
-        let a = rank-at units law.once i h in
-        let b = rank-at units law.once j (omega arith) in
-        omega (arith, ap (rank_in units) same)
+    let u = get_or units i 0 in
+    and_from (leb 1 u) (not (listed u order)) (le-leb 1 u (law.low u (on-at units i h)))
+    (not_from_false (listed u order) (listed-from-off u order (λ o. front-off units i h law.once (subst (On u) e o))))

@@ -1,13 +1,13 @@
--- The order of a rank table, and what is asked of it.
-use Rattle.std.specs.Prelude.{ℕ, ◌-◌, ◌≤◌, cond, ◌&&◌, List, length, take, Some, None, Option, nat_le, slice_index}
+-- The order of a rank table, what it keeps, and what is asked of it.
+use Rattle.std.specs.Prelude.{◌≡◌, ℕ, ◌-◌, ◌≤◌, cond, ◌&&◌, List, length, Some, None, Option, nat_le, slice_index, slice_index_or}
 use Rattle.theory.specs.Maps.{listed}
 use Rattle.theory.specs.Chains.{On}
 use Rattle.theory.specs.Ranks.{rank_in, Once}
-use Rattle.ranks.specs.declared.table.Ranks.{Ranks}
+use Rattle.ranks.specs.declared.Ranks.{Ranks}
 
 -- The units of a table, the highest first.
 abbrev pub order_of : Ranks → List ℕ
-order_of r = take r.n r.order
+order_of r = r
 
 -- What holds of every order: its units are numbers from 1 to 255, and none stands twice.
 pub record Lawful (order : List ℕ) : Type 0 where
@@ -18,6 +18,11 @@ pub record Lawful (order : List ℕ) : Type 0 where
 -- The rank of u, where u is in the order.
 abbrev pub rank_found : List ℕ → ℕ → Option ℕ
 rank_found order u = cond (listed u order) (Some (rank_in order u)) None
+
+-- What a table keeps: its order is lawful, and each number has the rank that it has in the order.
+pub record Numbered (order : List ℕ) (place : List (Option ℕ)) : Type 0 where
+  pub lawful : Lawful order
+  pub ranked : (u : ℕ) → slice_index_or place u None ≡ rank_found order u
 
 -- The unit at a rank from 1 to the number of units.
 abbrev pub unit_found : List ℕ → ℕ → Option ℕ
