@@ -29,16 +29,13 @@ use Rattle.mending.proofs.Differences.{difference-both, below, on_below, once-be
 off-label : (m : Map) → Sound m → (rank : ℕ → ℕ) (x v : ℕ) → (T (m.unit x) → ⊥) → false ≡ is_in_label m rank x v
 off-label m sound rank x v far = decided-by m sound rank x v false (λ t. absurd t, λ l. absurd (far (heard-first m sound x v l.heard)))
 
-zero-off : (m : Map) → Sound m → T (m.unit 0) → ⊥
-zero-off m sound t = let low = sound.low 0 t in omega arith
-
 -- one side
 module _ (m : Map) (sound : Sound m) (order : List ℕ) (orders : Orders m order) (may gone : ℕ → Bool) (old made new : ℕ → ℕ → Bool)
     (those : (k : ℕ) → gone k ≡ (may k && not (m.unit k))) (sets : (x v : ℕ) → new x v ≡ emptied gone made x v)
     (others : (x : ℕ) → (On x order → ⊥) → (v : ℕ) → made x v ≡ old x v) where
   -- the set of x is not emptied
   left : (x : ℕ) → gone x ≡ false → (v : ℕ) → new x v ≡ made x v
-  left x off v = sets x v ∙ ap (λ (b : Bool). not b && made x v) (and_right (leb 1 x) (gone x) off)
+  left x off v = sets x v ∙ ap (λ (b : Bool). not b && made x v) off
 
   unit_left : (x : ℕ) → m.unit x ≡ true → (v : ℕ) → new x v ≡ made x v
   unit_left x on = left x (those x ∙ and_right (may x) (not (m.unit x)) (not_from_true (m.unit x) on))
@@ -56,18 +53,14 @@ module _ (m : Map) (sound : Sound m) (order : List ℕ) (orders : Orders m order
   sides : difference old new ≡ difference old made + difference made new
   sides = difference-both old made new one_left
 
-  module _ (right : (x : ℕ) → On x order → (v : ℕ) → made x v ≡ is_in_label m (rank_in order) x v) (zero : (v : ℕ) → old 0 v ≡ false)
+  module _ (right : (x : ℕ) → On x order → (v : ℕ) → made x v ≡ is_in_label m (rank_in order) x v)
       (settled : (x : ℕ) → (T (may x) → ⊥) → (v : ℕ) → old x v ≡ is_in_label m (rank_in order) x v) where
     -- the set of what is no unit any more
-    off-row : (x v : ℕ) → m.unit x ≡ false → (may x ≡ true) ⊎ (may x ≡ false) → (x < 1) ⊎ (1 ≤ x) → new x v ≡ is_in_label m (rank_in order) x v
-    off-row x v off (inl in-may) (inr low) =
-        sets x v ∙ ap (λ (b : Bool). not b && made x v) (and_from (leb 1 x) (gone x) (le-leb 1 x low) (those x ∙ and_from (may x) (not (m.unit x)) in-may (not_from_false (m.unit x) off)))
+    off-row : (x v : ℕ) → m.unit x ≡ false → (may x ≡ true) ⊎ (may x ≡ false) → new x v ≡ is_in_label m (rank_in order) x v
+    off-row x v off (inl in-may) =
+        sets x v ∙ ap (λ (b : Bool). not b && made x v) (those x ∙ and_from (may x) (not (m.unit x)) in-may (not_from_false (m.unit x) off))
         ∙ off-label m sound (rank_in order) x v (λ t. subst T off t)
-    off-row x v off (inl in-may) (inl none) =
-        let is : x ≡ 0 = omega arith in
-        sets x v ∙ ap (λ (b : Bool). not b && made x v) (and_left (leb 1 x) (gone x) (lt-leb 1 x none)) ∙ others x (far x off) v ∙ ap (λ (z : ℕ). old z v) is ∙ zero v
-        ∙ off-label m sound (rank_in order) x v (λ t. subst T off t)
-    off-row x v off (inr out) h =
+    off-row x v off (inr out) =
         left x (those x ∙ and_left (may x) (not (m.unit x)) out) v ∙ others x (far x off) v ∙ settled x (λ t. subst T out t) v
 
     all-rows : (x v : ℕ) → new x v ≡ is_in_label m (rank_in order) x v
@@ -75,7 +68,7 @@ module _ (m : Map) (sound : Sound m) (order : List ℕ) (orders : Orders m order
       where
         pick : (m.unit x ≡ true) ⊎ (m.unit x ≡ false) → new x v ≡ is_in_label m (rank_in order) x v
         pick (inl on) = unit_left x on v ∙ right x (orders.every x (passes (m.unit x) on)) v
-        pick (inr off) = off-row x v off (cases_Bool (may x)) (cases_lt x 1)
+        pick (inr off) = off-row x v off (cases_Bool (may x))
 
 -- what no place of the order has does not stand in it
 off-places : (order : List ℕ) (x : ℕ) → (On x order → ⊥) → (i : ℕ) → i < length order → get_or order i 0 ≢ x
@@ -126,12 +119,10 @@ module _ (m : Map) (sound : Sound m) (order : List ℕ) (orders : Orders m order
           subst (λ (z : ℕ). Right m (rank_in order) (rows_of made) z) p.2 (all.right (λ x _. settled x) p.0 p.1)
 
       ins : (u v : ℕ) → holds new.ins u v ≡ is_in_label m (rank_in order) u v
-      ins = all-rows m sound order orders (has ups) (gone ups) (holds old.ins) (holds made.ins) (holds new.ins) (those ups) sets-ins other_ins (λ u o. (right u o).ins)
-          (λ v. exact.ins 0 v ∙ sym (off-label before sb (rank_in earlier) 0 v (zero-off before sb))) (λ u. (settled u).ins)
+      ins = all-rows m sound order orders (has ups) (gone ups) (holds old.ins) (holds made.ins) (holds new.ins) (those ups) sets-ins other_ins (λ u o. (right u o).ins) (λ u. (settled u).ins)
 
       outs : (u v : ℕ) → holds new.outs u v ≡ is_in_label (turned m) (rank_in order) u v
-      outs = all-rows (turned m) back order (turned-orders m order orders) (has downs) (gone downs) (holds old.outs) (holds made.outs) (holds new.outs) (those downs) sets-outs other_outs (λ u o. (right u o).outs)
-          (λ v. exact.outs 0 v ∙ sym (off-label (turned before) (turned-sound before sb) (rank_in earlier) 0 v (zero-off before sb))) (λ u. (settled u).outs)
+      outs = all-rows (turned m) back order (turned-orders m order orders) (has downs) (gone downs) (holds old.outs) (holds made.outs) (holds new.outs) (those downs) sets-outs other_outs (λ u o. (right u o).outs) (λ u. (settled u).outs)
 
       low : (n : Map) → Sound n → (u : ℕ) → T (n.unit u) → On u (below 256)
       low n sn u t = let h = sn.high u t in on_below 256 u (omega arith)

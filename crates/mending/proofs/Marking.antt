@@ -1,9 +1,10 @@
 -- The units that a walk passes over, gathered from the highest down: those before it in the order, and what they cover.
-use Rattle.std.proofs.Common.{◌≡◌, ℕ, suc, ◌+◌, ◌<◌, Bool, false, not, ◌&&◌, ◌||◌, T, eqb, ◌≢◌, ◌⊎◌, ◌↔◌, List, length, get_or, sym, ◌∙◌, subst, inl, inr, ⊎_elim, arith, eqb→eq}
+use Rattle.std.proofs.Common.{◌≡◌, ℕ, suc, ◌+◌, ◌<◌, ◌≤◌, Bool, false, not, ◌&&◌, ◌||◌, T, eqb, ◌≢◌, ◌⊎◌, ◌↔◌, List, [], ◌∷◌, ◌++◌, length, get_or, take, sym, ap, ◌∙◌, subst, inl, inr, ⊎_elim, arith, eqb→eq}
 use lib.Dec.{eqb_refl}
 use Rattle.std.proofs.lemmas.Bool.{cases_eq}
-use Rattle.theory.specs.Maps.{Map, Sound, hidden}
-use Rattle.theory.specs.Chains.{Heard}
+use Rattle.std.proofs.lemmas.List.{take_more, get_or-take, length-take-le}
+use Rattle.theory.specs.Maps.{Map, Sound, hidden, listed}
+use Rattle.theory.specs.Chains.{On, Heard}
 use Rattle.theory.specs.Hearing.{is_heard}
 use Rattle.theory.specs.Ranks.{rank_in, Once, Orders}
 use Rattle.theory.specs.Labels.{InLabel}
@@ -11,9 +12,10 @@ use Rattle.theory.specs.Rows.{Rows, Through, MarksBy}
 use Rattle.theory.proofs.Tests.{and-fst, and-snd, and_both, or-either, or_fst, or_snd, differ, differs}
 use Rattle.theory.proofs.Maps.{hidden-sound}
 use Rattle.theory.proofs.Warshall.{heard-sound, heard-complete}
-use Rattle.theory.proofs.Distinct.{on-at, at_on, rank-at}
+use Rattle.theory.proofs.Distinct.{on-at, at_on, listed-more, rank-at}
+use Rattle.theory.proofs.Lists.{listed-on}
 use Rattle.theory.proofs.Tables.{decided-by, next_row}
-use Rattle.mending.specs.Steps.{Firsts, NewRow}
+use Rattle.mending.specs.Steps.{NewRow}
 
 -- w is x, or it has u in its out-row and x in its in-row
 abbrev Leads : Rows → ℕ → ℕ → ℕ → Type 0
@@ -25,12 +27,18 @@ pub record Marking (order : List ℕ) (rows : Rows) (u k i : ℕ) (f : ℕ → B
   pub every : (j : ℕ) → j < i → (x : ℕ) → T (rows.outs (get_or order j 0) u) → T (rows.ins (get_or order j 0) x) → T (f x)
   pub only : (x : ℕ) → T (f x) → (j : ℕ) × (j < k) × Leads rows u (get_or order j 0) x
 
-pub marking-none : (order : List ℕ) (rows : Rows) (u k : ℕ) (f : ℕ → Bool) → Firsts order k f → Marking order rows u k 0 f
-marking-none order rows u k f first = record {
-  firsts = first.every;
+pub marking-none : (order : List ℕ) (rows : Rows) (u k : ℕ) (f : ℕ → Bool) → k ≤ length order → ((x : ℕ) → f x ≡ listed x (take k order)) → Marking order rows u k 0 f
+marking-none order rows u k f short first = record {
+  firsts = λ j h. subst T (sym (first (get_or order j 0))) ((listed-on (get_or order j 0) (take k order)).1 (subst (λ (z : ℕ). On z (take k order)) (get_or-take k order j 0 h) (on-at (take k order) j (omega (arith, long, h)))));
   every = λ j h. absurd (omega arith);
-  only = λ x t. let r = first.only x t in (r.0, r.1, inl r.2);
+  only = λ x t.
+      let (j, h, e) = at_on (take k order) x ((listed-on x (take k order)).0 (subst T (first x) t)) in
+      let within : j < k = omega (arith, h, long) in
+      (j, within, inl (sym (get_or-take k order j 0 within) ∙ e));
 }
+  where
+    long : length (take k order) ≡ k
+    long = length-take-le k order short
 
 module _ (order : List ℕ) (rows : Rows) (u k i : ℕ) (less : i < k) (f g : ℕ → Bool) (more : (x : ℕ) → g x ≡ (f x || (rows.outs (get_or order i 0) u && rows.ins (get_or order i 0) x))) (old : Marking order rows u k i f) where
   abbrev w : ℕ
@@ -102,14 +110,7 @@ row-found m sound order orders rows u f marks row walked right v = decided-by m 
     back (ne, h) = subst T (sym (walked v)) (and_both (not (eqb v u)) _ (differs v u (λ k. ne (sym k))) (heard-complete (hidden f m) (hidden-sound f m sound) u v h))
 
 -- the units that are done, one after another
-pub firsts-none : (order : List ℕ) (f : ℕ → Bool) → ((x : ℕ) → f x ≡ false) → Firsts order 0 f
-firsts-none order f none = record { every = λ i h. absurd (omega arith); only = λ x t. absurd (subst T (none x) t) }
-
-pub firsts_more : (order : List ℕ) (k : ℕ) (f g : ℕ → Bool) → ((x : ℕ) → g x ≡ (eqb x (get_or order k 0) || f x)) → Firsts order k f → Firsts order (k + 1) g
-firsts_more order k f g more old = record {
-  every = λ i h. subst T (sym (more (get_or order i 0))) (⊎_elim
-      (λ e. or_fst (eqb (get_or order i 0) (get_or order k 0)) _ (subst (λ (z : ℕ). T (eqb (get_or order i 0) (get_or order z 0))) e (eqb_refl (get_or order i 0))))
-      (λ ne. or_snd (eqb (get_or order i 0) (get_or order k 0)) (f (get_or order i 0)) (old.every i (omega (arith, ne)))) (cases_eq i k));
-  only = λ x t. ⊎_elim (λ p. (k, omega arith, sym (eqb→eq x (get_or order k 0) p))) (λ p. let r = old.only x p in let h = r.1 in (r.0, omega arith, r.2))
-      (or-either (eqb x (get_or order k 0)) (f x) (subst T (more x) t));
-}
+pub firsts_more : (order : List ℕ) (k : ℕ) (f g : ℕ → Bool) → k < length order → ((x : ℕ) → g x ≡ (eqb x (get_or order k 0) || f x)) → ((x : ℕ) → f x ≡ listed x (take k order))
+    → (x : ℕ) → g x ≡ listed x (take (k + 1) order)
+firsts_more order k f g h more old x =
+    more x ∙ ap (λ b. eqb x (get_or order k 0) || b) (old x) ∙ sym (ap (listed x) (take_more order k 0 h) ∙ listed-more x (take k order) (get_or order k 0))

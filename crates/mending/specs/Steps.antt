@@ -24,11 +24,6 @@ difference old new = sum_below (λ u. count (λ v. one_of (old u v) (new u v))) 
 abbrev pub changed : Labels → Labels → ℕ
 changed old new = difference (holds old.ins) (holds new.ins) + difference (holds old.outs) (holds new.outs)
 
--- The set has the first k units of the order, and no others.
-pub record Firsts (order : List ℕ) (k : ℕ) (set : ℕ → Bool) : Type 0 where
-  pub every : (i : ℕ) → i < k → T (set (slice_index order i))
-  pub only : (x : ℕ) → T (set x) → (i : ℕ) × (i < k) × (slice_index order i ≡ x)
-
 -- The set is the in-row of u, where the rows of all higher units are right.
 abbrev pub NewRow : Map → List ℕ → Rows → ℕ → (ℕ → Bool) → Type 0
 NewRow m order before u row = RightBefore m order before u → (v : ℕ) → row v ≡ is_in_label m (rank_in order) u v
@@ -46,6 +41,6 @@ pub record RenewedTo (k : ℕ) (m : Map) (order : List ℕ) (ups downs : ℕ →
   pub number : n ≡ changed old new
   pub most : n ≤ 512 * k
 
--- The table with the sets of all units of `gone` emptied; 0 is no unit.
+-- The table with the sets of all units of `gone` emptied.
 abbrev pub emptied : (ℕ → Bool) → (ℕ → ℕ → Bool) → ℕ → ℕ → Bool
-emptied gone table x v = not (nat_le 1 x && gone x) && table x v
+emptied gone table x v = not (gone x) && table x v

@@ -1,5 +1,5 @@
 -- The members of a set as a list: what comes first on it, and that just the members are on it.
-use Rattle.std.proofs.Common.{◌≡◌, ℕ, zero, suc, ◌+◌, ◌<◌, ◌≤◌, Bool, true, false, not, ◌&&◌, ◌||◌, cond, eqb, List, [], ◌∷◌, ◌++◌, length, get_or, drop, filter, Option, Some, None, append-nil, sym, refl, ap, ◌∙◌, ap₂, subst, inl, inr, arith}
+use Rattle.std.proofs.Common.{◌≡◌, ℕ, zero, suc, ◌+◌, ◌<◌, ◌≤◌, Bool, true, false, not, ◌&&◌, ◌||◌, cond, eqb, List, [], ◌∷◌, ◌++◌, length, get_or, drop, filter, Option, Some, None, append-nil, length-append, sym, refl, ap, ◌∙◌, ap₂, subst, inl, inr, arith}
 use Rattle.std.specs.List.{range_with_len}
 use Rattle.std.specs.Iterator.{Yields, YieldsFirst}
 use Rattle.std.proofs.lemmas.Bool.{both_ways, cases_lt, cases_eq, cases_Bool, ne_eqb, eq-eqb}
@@ -148,3 +148,20 @@ unfolding members
 next-turn s it e xs t u r x so-far some step =
     let next = next-given s it e xs t u r x so-far some step in
     (next-member s xs (left u) x next, fresh-passing (has s) 0 256 xs (left u) x next)
+
+length-passing : (f : ℕ → Bool) (from n : ℕ) → length (passing f from n) ≤ n
+length-passing f from zero = omega arith
+length-passing f from (suc n) = at (f from) (passing f (from + 1) n) (length-passing f (from + 1) n)
+  where
+    at : (b : Bool) (xs : List ℕ) → length xs ≤ n → length (cond b (from ∷ xs) xs) ≤ suc n
+    at true xs h = omega arith
+    at false xs h = omega arith
+
+pub length-members : (s : UnitSet) → length (members s) ≤ 256
+unfolding members
+length-members s = length-passing (has s) 0 256
+
+pub before-next : (s : UnitSet) (xs ys : List ℕ) (x : ℕ) → members s ≡ xs ++ x ∷ ys → length xs < 256
+before-next s xs ys x e =
+    let many = ap length e ∙ length-append xs (x ∷ ys) in
+    omega (arith, many, length-members s)

@@ -14,5 +14,5 @@ overflow_add-result g c =
 pub returns : goal.returns
 returns g c =
     let gone = c.empty_gone in
-    mended (g.M.Map.meaning c.args.m.now) c.sound.ensures c.args.order.now c.requires c.args.ups.now c.args.downs.now c.args.labels.now c.renew_all-renewed.new.labels gone.new.labels
+    mended (g.M.Map.meaning c.args.m.now) c.sound.ensures c.args.order.now c.requires c.args.touched.now.ups c.args.touched.now.downs c.args.labels.now c.renew_all-renewed.new.labels gone.new.labels
     c.renew_all-renewed.result gone.result c.renew_all-renewed.ensures (has c.units.result) c.units.ensures gone.ensures.ins gone.ensures.outs gone.ensures.number
