@@ -1,9 +1,8 @@
 -- Pairings go into a map one after the other, for the units of a list from its start.
-use Rattle.std.proofs.Common.{◌≡◌, ℕ, ◌+◌, ◌<◌, ◌≤◌, true, T, eqb, ◌≢◌, List, length, get_or, drop, sym, refl, ap, ◌∙◌, subst}
+use Rattle.std.proofs.Common.{◌≡◌, ℕ, ◌+◌, ◌<◌, ◌≤◌, true, T, eqb, ◌≢◌, List, length, get_or, drop, sym, ap, ◌∙◌, subst}
 use lib.Dec.{eqb_refl}
 use Rattle.std.proofs.lemmas.List.{at_drop_more, at_drop_all}
 use Rattle.theory.specs.Maps.{Map, with_unit, with_pair, enrolled}
-use Rattle.theory.specs.Chains.{On}
 use Rattle.theory.specs.Changes.{New}
 use Rattle.theory.proofs.Tests.{passed, or_fst, or_snd}
 use Rattle.theory.proofs.Distinct.{on-at}

@@ -24,8 +24,7 @@ loop-u-preserved g c =
     let v = get_or units i 0 in
     let now = matrix_map c.loop-u.map in
     let new = matrix_map c.add_pair.new.self in
-    let small : v < 256 = omega (arith, c.type_inv.units i) in
-    (
+    let small : v < 256 = omega (arith, c.type_inv.units i) in (
       c.loop-u.invariant.0,
       λ k. ap (λ n. n.unit k) c.add_pair.ensures ∙ c.loop-u.invariant.1 k,
       λ q told. adding-more q units i (matrix_map c.args.map.now) now new (c.add_pair.ensures ∙ ap (λ e. with_pair e.0 e.1 now) (told v small _ c.ends-a.ensures)) c.loop-u-test.true (c.loop-u.invariant.2 q told),

@@ -7,8 +7,7 @@ use Rattle.places.proofs.enrolled_copy.Goals as goal
 
 pub add_all-requires-clause-able : goal.add_all-requires-clause-able
 add_all-requires-clause-able g c =
-    let v = c.args.v in
-    (
+    let v = c.args.v in (
       λ s. (s, v),
       λ u h q k. search rules,
       sources-there (g.M.Map.meaning c.args.m.now) (matrix_map c.copy_of-map.result) (matrix_map c.add_unit.new.self) v c.args.partners.now.sources.now c.args.partners.now.listeners.now c.requires c.copy_of-map.ensures c.add_unit.ensures,
@@ -18,8 +17,7 @@ pub add_all-requires-2-clause-able : goal.add_all-requires-2-clause-able
 add_all-requires-2-clause-able g c =
     let v = c.args.v in
     let sources = c.args.partners.now.sources.now in
-    let half : matrix_map c.add_all.new.map ≡ joined (λ s. (s, v)) sources (matrix_map c.add_unit.new.self) = c.add_all.ensures (λ s. (s, v)) (λ u h q k. search rules) in
-    (
+    let half : matrix_map c.add_all.new.map ≡ joined (λ s. (s, v)) sources (matrix_map c.add_unit.new.self) = c.add_all.ensures (λ s. (s, v)) (λ u h q k. search rules) in (
       λ t. (v, t),
       λ u h q k. search rules,
       listeners-there (g.M.Map.meaning c.args.m.now) (matrix_map c.copy_of-map.result) (matrix_map c.add_unit.new.self) v sources c.args.partners.now.listeners.now c.requires c.copy_of-map.ensures c.add_unit.ensures (matrix_map c.add_all.new.map) half,

@@ -1,8 +1,7 @@
 -- Each unit of the order adds its holders, which are at most 512.
-use Rattle.std.proofs.Common.{ℕ, ◌+◌, ◌∙◌, rules}
+use Rattle.std.proofs.Common.{◌+◌, ◌∙◌, rules}
 use Rattle.std.proofs.lemmas.Iterator.{YieldsList-from_slice, YieldsList-from_map}
 use Rattle.std.proofs.lemmas.Iterator.Consumers.{YieldsList-at, sum_by_from_yields_List}
-use Rattle.std.proofs.iter.runs.Sources.{sums}
 use Rattle.theory.specs.Counts.{count}
 use Rattle.labels.specs.Holding.{holds, rows_of}
 use Rattle.places.proofs.Sums.{total_summed}
