@@ -11,7 +11,9 @@ use Rattle.theory.specs.Lists.{labels_changed}
 use Rattle.theory.specs.Changes.{Frame}
 use Rattle.theory.proofs.Warshall.{heard-complete}
 use Rattle.labels.specs.declared.Labels.{Labels}
+use Rattle.labels.specs.declared.ranked.Ranked.{Ranked}
 use Rattle.labels.specs.Asked.{Kept}
+use Rattle.labels.specs.OfMaps.{KeptOf}
 use Rattle.mending.specs.Mended.{Mended}
 use Rattle.plain.specs.declared.BookFault.{BookFault}
 use Rattle.plain.specs.Plain.{map_of}
@@ -62,9 +64,10 @@ refused capacity m order r answer cause is by =
 pub not-refused : {A : Type 0} (count : ℕ) (cause : BookFault) → Ok count ≡ Err cause → A
 not-refused count cause e = absurd (let z : ◌≡◌ {A = ℕ} 0 1 = cc in omega arith)
 
--- kept labels, by another term for the order
-pub asked-at : (m : Map) (order slice : List ℕ) (l : Labels) → Keeps m order l → slice ≡ order → Kept m slice l
-asked-at m order slice l k e = subst (λ (xs : List ℕ). Kept m xs l) (sym e) (record { sound = k.sound; orders = k.orders; exact = k.exact })
+-- kept labels, as they and their order were lent
+pub asked-at : (m : Map) (order : List ℕ) (l : Labels) (r : Ranked) → Keeps m order l → r.labels.now ≡ l → r.order.now ≡ order → KeptOf m r
+asked-at m order l r k le oe =
+    subst (λ (xs : List ℕ). Kept m xs r.labels.now) (sym oe) (subst (Kept m order) (sym le) (record { sound = k.sound; orders = k.orders; exact = k.exact }))
 
 module _ (capacity : ℕ) (m : Map) (order : List ℕ) (l : Labels) (keeps : Keeps m order l) (r : Request) where
   -- a granted one, from the map n and its order after

@@ -16,7 +16,8 @@ use Rattle.theory.proofs.Warshall.{heard-complete}
 use Rattle.theory.proofs.Enrols.{changes-sound, enrol_orders, enrol-area, enrol-frame}
 use Rattle.theory.proofs.Rings.{rings-kept-out}
 use Rattle.labels.specs.declared.Labels.{Labels}
-use Rattle.labels.specs.Asked.{Kept}
+use Rattle.labels.specs.declared.ranked.Ranked.{Ranked}
+use Rattle.labels.specs.OfMaps.{KeptOf}
 use Rattle.mending.specs.Mended.{Mended}
 use Rattle.plain.specs.Plain.{map_of, hears}
 use Rattle.plain.specs.Lists.{some, doubled}
@@ -45,29 +46,14 @@ same_some : (f g : ℕ → Bool) (xs : List ℕ) → ((x : ℕ) → f x ≡ g x)
 same_some f g xs e = ap (λ (h : ℕ → Bool). some h xs) (λ i x. e x i)
 
 pub ring-told : (m : Map) (order : List ℕ) (l : Labels) → Keeps m order l → (sources listeners : List ℕ) → some (λ u. not (listed u order)) (sources ++ listeners) ≡ false →
-    (hearers : UnitSet) (slice : List ℕ) → slice ≡ order →
-    ((n : Map) → Kept n slice l → ((u : ℕ) → On u listeners → T (n.unit u)) → (v : ℕ) → has hearers v ≡ some (λ t. is_heard n t v) listeners) →
-    (answer : Bool) → answer ≡ some (has hearers) sources → answer ≡ some (λ s. some (λ t. hears (plain_by m order) s t) listeners) sources
-ring-told m order l keeps sources listeners e hearers slice is all answer a =
+    (r : Ranked) → r.labels.now ≡ l → r.order.now ≡ order →
+    (answer : Bool) → ((n : Map) → KeptOf n r → ((u : ℕ) → On u listeners → T (n.unit u)) → answer ≡ some (λ s. some (λ t. is_heard n t s) listeners) sources) →
+    answer ≡ some (λ s. some (λ t. hears (plain_by m order) s t) listeners) sources
+ring-told m order l keeps sources listeners e r le oe answer told =
     let parts = or_parts _ _ (sym (some-append (λ u. not (listed u order)) sources listeners) ∙ e) in
-    let set = all m (asked-at m order slice l keeps is) (stands-in m order l keeps listeners parts.1) in
-    a ∙ same_some (has hearers) (λ s. some (λ t. hears (plain_by m order) s t) listeners) sources
-    (λ s. set s ∙ same_some (λ t. is_heard m t s) (λ t. hears (plain_by m order) s t) listeners (λ t. ap (λ (n : Map). is_heard n t s) (stored-by m order keeps.orders)))
-
--- both lists are known exactly when each is
-pub known-then : (f : ℕ → Bool) (xs ys : List ℕ) → not (some f xs) ≡ true → not (some f ys) ≡ not (some f (xs ++ ys))
-known-then f xs ys e = sym (ap not (some-append f xs ys) ∙ go (some f xs) (some f ys) e)
-  where
-    go : (a b : Bool) → not a ≡ true → not (a || b) ≡ not b
-    go true b n = absurd (false≢true n)
-    go false b n = refl
-
-pub known-else : (f : ℕ → Bool) (xs ys : List ℕ) → not (some f xs) ≡ false → not (some f xs) ≡ not (some f (xs ++ ys))
-known-else f xs ys e = sym (ap not (some-append f xs ys) ∙ go (some f xs) (some f ys) e)
-  where
-    go : (a b : Bool) → not a ≡ false → not (a || b) ≡ not a
-    go true b n = refl
-    go false b n = absurd (false≢true (sym n))
+    told m (asked-at m order l r keeps le oe) (stands-in m order l keeps listeners parts.1)
+    ∙ same_some (λ s. some (λ t. is_heard m t s) listeners) (λ s. some (λ t. hears (plain_by m order) s t) listeners) sources
+    (λ s. same_some (λ t. is_heard m t s) (λ t. hears (plain_by m order) s t) listeners (λ t. ap (λ (n : Map). is_heard n t s) (stored-by m order keeps.orders)))
 
 module _ (capacity : ℕ) (m : Map) (order : List ℕ) (l : Labels) (keeps : Keeps m order l) (v k : ℕ) (small : v ≤ 255) (sources listeners : List ℕ)
     (absent : first_cause (enrol_checks capacity (plain_by m order) v k sources listeners) ≡ None) where

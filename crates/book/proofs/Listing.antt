@@ -4,6 +4,8 @@ use Rattle.std.proofs.lemmas.Result.{err_from_is_err_and}
 use Rattle.std.proofs.lemmas.Bool.{leb-true, leb-false, le-ltb, lt-ltb}
 use Rattle.labels.specs.declared.lists.ShortBuffer.{ShortBuffer}
 use Rattle.labels.specs.declared.Labels.{Labels}
+use Rattle.labels.specs.declared.ranked.Ranked.{Ranked}
+use Rattle.labels.specs.OfMaps.{ExactOf}
 use Rattle.labels.specs.Holding.{Exact}
 use Rattle.labels.specs.Listed.{Listed}
 use Rattle.theory.specs.Maps.{Map}
@@ -63,10 +65,11 @@ module _ (capacity : ℕ) (p : Plain) (r : Request) (xs before : List ℕ) (u : 
             left = l.leaves ∙ ap (λ (z : Bool). cond z (xs ++ drop (length xs) before) before) t ∙ ap (λ z. filled z xs before) (sym w);
           }
 
--- the order as the slice that was lent
-pub by_order : (L : Map → List ℕ → ℕ → List ℕ) (l : Labels) (u : ℕ) (before after : List ℕ) (got : Result ℕ ShortBuffer) (slice order : List ℕ) → slice ≡ order →
-    ((m : Map) → Exact m slice l → Listed (L m slice u) before got after) → (m : Map) → Exact m order l → Listed (L m order u) before got after
-by_order L l u before after got slice order e f = subst (λ (xs : List ℕ). (m : Map) → Exact m xs l → Listed (L m xs u) before got after) e f
+-- the labels and the order as they were lent
+pub by_order : (L : Map → List ℕ → ℕ → List ℕ) (u : ℕ) (before after : List ℕ) (got : Result ℕ ShortBuffer) (r : Ranked) (l : Labels) (order : List ℕ) → r.labels.now ≡ l → r.order.now ≡ order →
+    ((m : Map) → ExactOf m r → Listed (L m r.order.now u) before got after) → (m : Map) → Exact m order l → Listed (L m order u) before got after
+by_order L u before after got r l order le oe f m exact =
+    subst (λ (xs : List ℕ). Listed (L m xs u) before got after) oe (f m (subst (λ (xs : List ℕ). Exact m xs r.labels.now) (sym oe) (subst (Exact m order) (sym le) exact)))
 
 -- a kept list is the list of the definition, and was asked for as such
 pub listed_kept : (capacity : ℕ) (p : Plain) (r : Request) (xs kept before : List ℕ) (answer : Result ℕ BookFault) (after : List ℕ) → kept ≡ xs → Lists capacity p r xs before answer after → Lists capacity p r kept before answer after

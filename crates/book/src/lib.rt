@@ -15,10 +15,10 @@ ghost use Rattle.book.specs.Views.{plain_of, Whole, kept_in_labels, kept_out_lab
 ghost use Rattle.book.specs.Answers.{answered, ByChains, Lists, Applied, fault_of};
 
 use grid::Matrix;
-use labels::{Holders, Labels, ShortBuffer};
+use labels::{Labels, List, Ranked, ShortBuffer};
 use maps::{Map, Store};
 use mending::mend;
-use partners::{all_known, any_doubled, any_member, attach, heard_of, hearers_of};
+use partners::Partners;
 use plain::BookFault;
 use ranks::Ranks;
 use units::UnitSet;
@@ -43,10 +43,18 @@ impl<S: Store> Book<S> {
         Book {
             store,
             ranks: Ranks::empty(),
-            labels: Labels {
-                ins: Holders::empty(),
-                outs: Holders::empty(),
-            },
+            labels: Labels::empty(),
+        }
+    }
+
+    // The kept labels, and the order of the ranks.
+    fn ranked(&self) -> Ranked<'_>
+        ensures labels { result.labels.now ≡ self.now.labels }
+        ensures order { result.order.now ≡ order_of self.now.ranks }
+    {
+        Ranked {
+            labels: &self.labels,
+            order: self.ranks.as_slice(),
         }
     }
 
@@ -67,9 +75,7 @@ impl<S: Store> Book<S> {
         requires both { (stands (plain_of S.Map.meaning self.now) s ≡ true) × (stands (plain_of S.Map.meaning self.now) t ≡ true) }
         ensures { result ≡ hears (plain_of S.Map.meaning self.now) t s }
     {
-        self.labels
-            .highest_shared(self.ranks.as_slice(), s, t)
-            .is_some()
+        self.ranked().highest_shared(s, t).is_some()
     }
 
     // Whether t hears s.
@@ -100,7 +106,7 @@ impl<S: Store> Book<S> {
         ensures kept { kept_in_labels S.Map.meaning self.now u ≡ in_labels (map_of (plain_of S.Map.meaning self.now)) (plain_of S.Map.meaning self.now).order u }
     {
         self.check_unit(u)?;
-        fitted(self.labels.in_labels(self.ranks.as_slice(), u, buffer))
+        fitted(self.ranked().list(List::InLabels, u, buffer))
     }
 
     // The out-labels of u.
@@ -110,7 +116,7 @@ impl<S: Store> Book<S> {
         ensures kept { kept_out_labels S.Map.meaning self.now u ≡ out_labels (map_of (plain_of S.Map.meaning self.now)) (plain_of S.Map.meaning self.now).order u }
     {
         self.check_unit(u)?;
-        fitted(self.labels.out_labels(self.ranks.as_slice(), u, buffer))
+        fitted(self.ranked().list(List::OutLabels, u, buffer))
     }
 
     // The units that have u among their in-labels.
@@ -120,7 +126,7 @@ impl<S: Store> Book<S> {
         ensures kept { kept_in_holders S.Map.meaning self.now u ≡ in_holders (map_of (plain_of S.Map.meaning self.now)) (plain_of S.Map.meaning self.now).order u }
     {
         self.check_unit(u)?;
-        fitted(self.labels.in_holders(self.ranks.as_slice(), u, buffer))
+        fitted(self.ranked().list(List::InHolders, u, buffer))
     }
 
     // The units that have u among their out-labels.
@@ -130,7 +136,7 @@ impl<S: Store> Book<S> {
         ensures kept { kept_out_holders S.Map.meaning self.now u ≡ out_holders (map_of (plain_of S.Map.meaning self.now)) (plain_of S.Map.meaning self.now).order u }
     {
         self.check_unit(u)?;
-        fitted(self.labels.out_holders(self.ranks.as_slice(), u, buffer))
+        fitted(self.ranked().list(List::OutHolders, u, buffer))
     }
 
     // The units between which a change of a and b can alter labels: all that a hears, and all that hear b.
@@ -140,8 +146,8 @@ impl<S: Store> Book<S> {
         ensures ups { (u : ℕ) → has result.0 u ≡ hears (plain_of S.Map.meaning self.now) a u }
         ensures downs { (u : ℕ) → has result.1 u ≡ hears (plain_of S.Map.meaning self.now) u b }
     {
-        let order = self.ranks.as_slice();
-        (self.labels.heard(order, a), self.labels.hearers(order, b))
+        let ranked = self.ranked();
+        (ranked.heard(a), ranked.hearers(b))
     }
 
     // Mends the labels after the store and the ranks have changed.
@@ -251,7 +257,7 @@ impl<S: Store> Book<S> {
     fn stand_both(&self, sources: &[u8], listeners: &[u8]) -> bool
         ensures { result ≡ not (some (λ u. not (stands (plain_of S.Map.meaning self.now) u)) (sources.now ++ listeners.now)) }
     {
-        all_known(&self.ranks, sources) && all_known(&self.ranks, listeners)
+        Partners { sources, listeners }.all_known(&self.ranks)
     }
 
     // Whether some source hears some listener.
@@ -260,8 +266,7 @@ impl<S: Store> Book<S> {
         requires stand { some (λ u. not (stands (plain_of S.Map.meaning self.now) u)) (sources.now ++ listeners.now) ≡ false }
         ensures { result ≡ some (λ s. some (λ t. hears (plain_of S.Map.meaning self.now) s t) listeners.now) sources.now }
     {
-        let hearers = hearers_of(&self.labels, self.ranks.as_slice(), listeners);
-        any_member(&hearers, sources)
+        Partners { sources, listeners }.make_ring(&self.ranked())
     }
 
     // The first cause for which a unit cannot have the partners.
@@ -313,11 +318,12 @@ impl<S: Store> Book<S> {
         ensures kept { (cause : BookFault) → result ≡ Err cause → self.new ≡ self.old }
     {
         self.check_enrol(v, k, sources, listeners)?;
-        let mut ups = heard_of(&self.labels, self.ranks.as_slice(), sources);
-        let mut downs = hearers_of(&self.labels, self.ranks.as_slice(), listeners);
+        let partners = Partners { sources, listeners };
+        let mut ups = partners.heard(&self.ranked());
+        let mut downs = partners.hearers(&self.ranked());
         ups.insert(v);
         downs.insert(v);
-        attach(&mut self.store, v, sources, listeners)?;
+        partners.attach(&mut self.store, v)?;
         self.ranks.insert(k - 1, v);
         Ok(self.mend_labels(&ups, &downs))
     }
@@ -337,5 +343,5 @@ fn fitted(answer: Result<usize, ShortBuffer>) -> Result<usize, BookFault>
 fn double_in_one(sources: &[u8], listeners: &[u8]) -> bool
     ensures { result ≡ (doubled sources.now || doubled listeners.now) }
 {
-    any_doubled(sources) || any_doubled(listeners)
+    Partners { sources, listeners }.any_doubled()
 }

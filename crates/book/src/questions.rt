@@ -9,6 +9,7 @@ ghost use Rattle.book.specs.Questions.{ByBest, ByFewest, place_by};
 
 use crate::Book;
 use maps::{Map, Store};
+use partners::Partners;
 use places::{Place, best_place};
 use plain::BookFault;
 use sheets::{is_lawful, reach};
@@ -58,6 +59,7 @@ impl<S: Store> Book<S> {
         ensures best { ByBest (plain_of S.Map.meaning self.now) v sources.now listeners.now result }
     {
         self.check_place(v, sources, listeners)?;
-        Ok(best_place(&self.store, &self.ranks, v, sources, listeners))
+        let partners = Partners { sources, listeners };
+        Ok(best_place(&self.store, &self.ranks, v, &partners))
     }
 }

@@ -60,7 +60,8 @@ pub struct Labels {
 impl Labels {
     // No label.
     pub fn empty() -> Labels
-        ensures { (u v : ℕ) → (holds result.ins u v ≡ false) × (holds result.outs u v ≡ false) }
+        ensures ins { (u v : ℕ) → holds result.ins u v ≡ false }
+        ensures outs { (u v : ℕ) → holds result.outs u v ≡ false }
     {
         Labels {
             ins: Holders::empty(),

@@ -1,6 +1,7 @@
 -- A list asked unit by unit: what is found so far and what the rest of the list says are the whole.
-use Rattle.std.proofs.Common.{◌≡◌, ℕ, ◌+◌, ◌<◌, ◌≤◌, Bool, true, false, ◌||◌, eqb, List, [], ◌∷◌, length, get_or, drop, sym, refl, ap, ◌∙◌, arith}
+use Rattle.std.proofs.Common.{◌≡◌, ℕ, ◌+◌, ◌<◌, ◌≤◌, Bool, true, false, not, ◌&&◌, ◌||◌, eqb, List, [], ◌∷◌, length, get_or, drop, sym, refl, ap, ◌∙◌, arith}
 use Rattle.std.proofs.lemmas.List.{at_drop_more, at_drop_all}
+use Rattle.std.specs.List.{list_any, list_all}
 use Rattle.std.proofs.lemmas.Bool.{or_left}
 use Rattle.std.proofs.lemmas.Bool.Decides.{nat_tests}
 use Rattle.theory.specs.Maps.{listed}
@@ -44,3 +45,16 @@ module _ (seen : ℕ → Bool) (xs : List ℕ) (i : ℕ) (inv : again seen (drop
 
   pub seen_all : length xs ≤ i → doubled xs ≡ false
   seen_all h = sym inv ∙ at_drop_all (again seen) xs i h
+
+-- tests of a list in the words of the library
+pub some_is : (f : ℕ → Bool) (xs : List ℕ) → list_any f xs ≡ some f xs
+some_is f [] = refl
+some_is f (x ∷ xs) = ap (λ b. f x || b) (some_is f xs)
+
+pub all_is : (f : ℕ → Bool) (xs : List ℕ) → list_all f xs ≡ not (some (λ x. not (f x)) xs)
+all_is f [] = refl
+all_is f (x ∷ xs) = ap (λ b. f x && b) (all_is f xs) ∙ turned (f x) (some (λ y. not (f y)) xs)
+  where
+    turned : (a b : Bool) → (a && not b) ≡ not (not a || b)
+    turned true b = refl
+    turned false b = refl

@@ -1,5 +1,6 @@
 -- A new unit tried at each rank of an order.
-use Rattle.std.specs.Prelude.{ℕ, ◌-◌, cond, List, nat_le}
+use Rattle.std.specs.Prelude.{ℕ, ◌-◌, cond, T, ◌≢◌, List, nat_le}
+use Rattle.theory.specs.Chains.{On}
 use Rattle.theory.specs.Maps.{Map}
 use Rattle.theory.specs.Ranks.{inserted}
 use Rattle.theory.specs.Lists.{total}
@@ -16,3 +17,7 @@ told_of p = (p.rank, p.total)
 -- The one or the other place: the one with the smaller total, the first of equals.
 abbrev pub smaller : ℕ × ℕ → ℕ × ℕ → ℕ × ℕ
 smaller a b = cond (nat_le a.1 b.1) a b
+
+-- The pairing of each unit of the list leads between different units of the map.
+abbrev pub Addable : (ℕ → ℕ × ℕ) → List ℕ → Map → Type 0
+Addable p us m = (u : ℕ) → On u us → T (m.unit (p u).0) × T (m.unit (p u).1) × ((p u).0 ≢ (p u).1)

@@ -14,13 +14,14 @@ ghost use Rattle.labels.specs.Holding.{holds, rows_of};
 ghost use Rattle.plain.specs.Placing.{best_from};
 ghost use Rattle.ranks.specs.Orders.{order_of};
 ghost use Rattle.grid.specs.Meaning.{matrix_map};
-ghost use Rattle.partners.specs.Joins.{joined};
-ghost use Rattle.places.specs.Trials.{trial, told_of, smaller};
+ghost use Rattle.partners.specs.Joins.{Gives, joined};
+ghost use Rattle.places.specs.Trials.{Addable, trial, told_of, smaller};
 
 use grid::Matrix;
 use labels::Labels;
 use maps::Map;
 use mending::build;
+use partners::Partners;
 use ranks::Ranks;
 
 mod place;
@@ -40,44 +41,30 @@ fn total_of(labels: &Labels, order: &[u8]) -> u32
     requires { length order.now ≤ 255 }
     ensures { result ≡ rows_total (rows_of labels.now) order.now }
 {
-    let mut sum = 0;
-    for u in order {
-        sum += holders(labels, *u);
-    }
-    sum
+    order.iter().map(|u| holders(labels, *u)).sum()
 }
 
-// Pairs each of the sources to v.
-fn add_sources(map: &mut Matrix, v: u8, sources: &[u8])
-    requires unit { T ((matrix_map map.old).unit v) }
-    requires from { (s : ℕ) → On s sources.now → T ((matrix_map map.old).unit s) × (s ≢ v) }
-    ensures { matrix_map map.new ≡ joined (λ s. s) (λ s. v) sources.now (matrix_map map.old) }
+// Pairs the ends that `ends` gives for each unit of the list.
+fn add_all<F: Fn(u8) -> (u8, u8)>(map: &mut Matrix, units: &[u8], ends: F)
+    requires callable { F.IsAlwaysCallable ends }
+    requires able { (p : ℕ → ℕ × ℕ) × Gives (λ u q. F.post ends u q) p × Addable p units.now (matrix_map map.old) }
+    ensures { (p : ℕ → ℕ × ℕ) → Gives (λ u q. F.post ends u q) p → matrix_map map.new ≡ joined p units.now (matrix_map map.old) }
 {
-    for s in sources {
-        map.add_pair(*s, v);
-    }
-}
-
-// Pairs v to each of the listeners.
-fn add_listeners(map: &mut Matrix, v: u8, listeners: &[u8])
-    requires unit { T ((matrix_map map.old).unit v) }
-    requires to { (t : ℕ) → On t listeners.now → T ((matrix_map map.old).unit t) × (t ≢ v) }
-    ensures { matrix_map map.new ≡ joined (λ t. v) (λ t. t) listeners.now (matrix_map map.old) }
-{
-    for t in listeners {
-        map.add_pair(v, *t);
+    for u in units {
+        let (a, b) = ends(*u);
+        map.add_pair(a, b);
     }
 }
 
 // A copy of the map with v enrolled.
-fn enrolled_copy<M: Map>(m: &M, v: u8, sources: &[u8], listeners: &[u8]) -> Matrix
-    requires { New (M.Map.meaning m.now) v sources.now listeners.now }
-    ensures { matrix_map result ≡ enrolled v sources.now listeners.now (M.Map.meaning m.now) }
+fn enrolled_copy<M: Map>(m: &M, v: u8, partners: &Partners) -> Matrix
+    requires { New (M.Map.meaning m.now) v partners.now.sources.now partners.now.listeners.now }
+    ensures { matrix_map result ≡ enrolled v partners.now.sources.now partners.now.listeners.now (M.Map.meaning m.now) }
 {
     let mut map = Matrix::copy_of(m);
     map.add_unit(v);
-    add_sources(&mut map, v, sources);
-    add_listeners(&mut map, v, listeners);
+    add_all(&mut map, partners.sources, move |s| (s, v));
+    add_all(&mut map, partners.listeners, move |t| (v, t));
     map
 }
 
@@ -131,11 +118,11 @@ fn best_of<M: Map>(m: &M, ranks: &Ranks, v: u8) -> Place
 }
 
 // The rank at which v would leave the fewest labels in the map, the least of equals, and how many they would be.
-pub fn best_place<M: Map>(m: &M, ranks: &Ranks, v: u8, sources: &[u8], listeners: &[u8]) -> Place
+pub fn best_place<M: Map>(m: &M, ranks: &Ranks, v: u8, partners: &Partners) -> Place
     requires orders { Orders (M.Map.meaning m.now) (order_of ranks.now) }
-    requires new { New (M.Map.meaning m.now) v sources.now listeners.now }
-    ensures { told_of result ≡ best_from (trial (enrolled v sources.now listeners.now (M.Map.meaning m.now)) v (order_of ranks.now)) 1 (length (order_of ranks.now)) }
+    requires new { New (M.Map.meaning m.now) v partners.now.sources.now partners.now.listeners.now }
+    ensures { told_of result ≡ best_from (trial (enrolled v partners.now.sources.now partners.now.listeners.now (M.Map.meaning m.now)) v (order_of ranks.now)) 1 (length (order_of ranks.now)) }
 {
     m.sound();
-    best_of(&enrolled_copy(m, v, sources, listeners), ranks, v)
+    best_of(&enrolled_copy(m, v, partners), ranks, v)
 }

@@ -1,22 +1,16 @@
-use Rattle.std.proofs.Common.{arith}
-use Rattle.labels.specs.Holding.{rows_of}
-use Rattle.places.proofs.Sums.{total-start, total-more, total-end}
+-- Each unit of the order adds its holders, which are at most 512.
+use Rattle.std.proofs.Common.{◌+◌, ◌∙◌, rules}
+use Rattle.std.proofs.lemmas.Iterator.{YieldsList-from_slice, YieldsList-from_map}
+use Rattle.std.proofs.lemmas.Iterator.Consumers.{YieldsList-at, sum_by_from_yields_List}
+use Rattle.theory.specs.Counts.{count}
+use Rattle.labels.specs.Holding.{holds, rows_of}
+use Rattle.places.proofs.Sums.{total_summed}
 use Rattle.places.proofs.total_of.Goals as goal
 
-pub loop-u-init : goal.loop-u-init
-loop-u-init c = (total-start (rows_of c.args.labels.now) c.args.order.now, omega arith)
-
-pub loop-u-preserved : goal.loop-u-preserved
-loop-u-preserved c =
-    let few = c.holders-sum.ensures.most in
-    let most = c.loop-u.invariant.1 in
-    (total-more (rows_of c.args.labels.now) c.args.order.now c.loop-u.u-index c.loop-u.sum c.holders-sum.result c.loop-u-test.true c.holders-sum.ensures.number c.loop-u.invariant.0, omega arith)
-
-pub overflow_add-sum : goal.overflow_add-sum
-overflow_add-sum c =
-    let few = c.holders-sum.ensures.most in
-    let most = c.loop-u.invariant.1 in
-    omega arith
-
 pub returns : goal.returns
-returns c = total-end (rows_of c.args.labels.now) c.args.order.now c.loop-u.u-index c.loop-u.sum c.loop-u-test.false c.loop-u.invariant.0
+returns c =
+    let l = c.args.labels.now in
+    let order = c.args.order.now in
+    sum_by_from_yields_List (λ u. count (holds l.ins u) + count (holds l.outs u)) order c.map.result _ c.sum.ensures.ran
+    (YieldsList-from_map _ (λ u. count (holds l.ins u) + count (holds l.outs u)) (YieldsList-at c.map.ensures.source (YieldsList-from_slice order cc)) c.map.ensures.closure (λ x r q k. search rules))
+    ∙ total_summed (rows_of l) order

@@ -68,11 +68,11 @@ returns g c =
     let small : c.args.v ≤ 255 = omega (arith, c.ranges.v.fits) in
     let passed = no-cause _ (tt {0}) c.in_ok-check_enrol.ensures in
     let n = new g.S.Store.room m order c.args.self.now.labels k c.args.v c.args.k small c.args.sources.now c.args.listeners.now passed in
-    let ups = c.heard_of-ups.ensures m (asked-at m order _ c.args.self.now.labels k c.as_slice.ensures) n.from in
-    let downs = c.hearers_of-downs.ensures m (asked-at m order _ c.args.self.now.labels k c.as_slice-2.ensures) n.to in
+    let ups = c.heard-ups.ensures m (asked-at m order c.args.self.now.labels c.ranked.result k c.ranked.ensures.labels c.ranked.ensures.order) n.from in
+    let downs = c.hearers-downs.ensures m (asked-at m order c.args.self.now.labels c.ranked-2.result k c.ranked-2.ensures.labels c.ranked-2.ensures.order) n.to in
     let done = enrol-done g.S.Store.room m order c.args.self.now.labels k c.args.v c.args.k small c.args.sources.now c.args.listeners.now passed c.insert.new.self c.insert-2.new.self
-    (with-own c.args.v c.heard_of-ups.result _ (λ u. some (λ s. is_heard m u s) c.args.sources.now) c.insert.ensures ups)
-    (with-own c.args.v c.hearers_of-downs.result _ (λ u. some (λ t. is_heard m t u) c.args.listeners.now) c.insert-2.ensures downs)
+    (with-own c.args.v c.heard-ups.result _ (λ u. some (λ s. is_heard m u s) c.args.sources.now) c.insert.ensures ups)
+    (with-own c.args.v c.hearers-downs.result _ (λ u. some (λ t. is_heard m t u) c.args.listeners.now) c.insert-2.ensures downs)
     c.mend_labels.new.self.labels c.mend_labels.result (g.S.Map.meaning c.mend_labels.new.self.store) (order_of c.mend_labels.new.self.ranks)
     (mended-at _ (enrolled c.args.v c.args.sources.now c.args.listeners.now m) _ (inserted (c.args.k - 1) c.args.v order) _ _ _ _ _ c.attach.ensures.left c.insert-3.ensures c.mend_labels.ensures.mended)
     (ap g.S.Map.meaning c.mend_labels.ensures.store ∙ c.attach.ensures.left) (ap order_of c.mend_labels.ensures.ranks ∙ c.insert-3.ensures) in

@@ -25,6 +25,6 @@ returns g c =
     let kept = in-labels-kept (map_of p) p.order c.args.self.now.labels c.requires.exact c.args.u in
     record {
       listed =
-          (list-told g.S.Store.room p (InLabels c.args.u (length c.args.buffer.now)) (in_labels (map_of p) p.order c.args.u) c.args.buffer.now c.args.u refl _ c.fitted.result _ c.in_ok-check_unit.ensures (by_order in_labels _ _ _ _ _ _ _ c.as_slice.ensures c.in_labels.ensures _ c.requires.exact) c.fitted.ensures);
+          (list-told g.S.Store.room p (InLabels c.args.u (length c.args.buffer.now)) (in_labels (map_of p) p.order c.args.u) c.args.buffer.now c.args.u refl _ c.fitted.result _ c.in_ok-check_unit.ensures (by_order in_labels _ _ _ _ c.ranked.result _ _ c.ranked.ensures.labels c.ranked.ensures.order c.list.ensures _ c.requires.exact) c.fitted.ensures);
       kept = kept;
     }

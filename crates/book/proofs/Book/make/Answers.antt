@@ -6,5 +6,5 @@ use Rattle.book.proofs.Book.make.Goals as goal
 pub returns : goal.returns
 returns g c = record {
   empty = plain_at _ nothing _ [] c.clear.ensures c.empty.ensures;
-  whole = agrees_at _ nothing _ [] _ c.clear.ensures c.empty.ensures (nothing-kept _ c.empty-2.ensures c.empty-3.ensures);
+  whole = agrees_at _ nothing _ [] _ c.clear.ensures c.empty.ensures (nothing-kept _ c.empty-2.ensures.ins c.empty-2.ensures.outs);
 }

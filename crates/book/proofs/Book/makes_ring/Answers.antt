@@ -6,4 +6,4 @@ use Rattle.book.proofs.Book.makes_ring.Goals as goal
 pub returns : goal.returns
 returns g c =
     ring-told (g.S.Map.meaning c.args.self.now.store) (order_of c.args.self.now.ranks) c.args.self.now.labels (keeps _ _ _ c.requires.whole) c.args.sources.now c.args.listeners.now c.requires.stand
-    c.hearers_of-hearers.result _ c.as_slice.ensures c.hearers_of-hearers.ensures _ c.any_member.ensures
+    c.ranked.result c.ranked.ensures.labels c.ranked.ensures.order _ c.make_ring.ensures
