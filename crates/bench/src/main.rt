@@ -8,14 +8,14 @@
 ghost use Rattle.grid.specs.Held.{grid_map};
 ghost use Rattle.book.specs.Views.{Whole};
 
-use anyhow::anyhow;
+use anyhow::{Context, anyhow};
 use book::Book;
 use grid::Grid;
 use plain::BookFault;
 use std::alloc::Global;
 use std::env;
 use std::io::{BufReader, Read};
-use std::time::Instant;
+use std::time::{Duration, Instant};
 
 #[derive(Drop)]
 enum Change {
@@ -30,37 +30,55 @@ enum Change {
 }
 
 // How often something was done, and for how long in all.
-#[derive(Clone, Copy)]
+#[derive(Clone, Copy, Default)]
 struct Spent {
     times: u32,
     nanos: u128,
 }
 
-// The number that a word writes.
-fn number(word: Option<&str>) -> anyhow::Result<u8> {
-    match word {
-        Some(text) => Ok(text.parse::<u8>()?),
-        None => Err(anyhow!("a number is missing")),
+impl Spent {
+    // With once more.
+    fn with(self, took: Duration) -> Spent {
+        Spent {
+            times: self.times.saturating_add(1),
+            nanos: self.nanos.saturating_add(took.as_nanos()),
+        }
+    }
+
+    // Nanoseconds for each time.
+    fn each(self) -> u128 {
+        self.nanos / u128::from(self.times.max(1))
     }
 }
 
-// An enrolment, from the words after its letter.
+// What the changes of each kind took.
+#[derive(Clone, Copy, Default)]
+struct Times {
+    // those after the first drop
+    enrol: Spent,
+    pair: Spent,
+    drop: Spent,
+}
+
+// The number that a word writes.
+fn number(word: Option<&str>) -> anyhow::Result<u8> {
+    Ok(word.context("a number is missing")?.parse()?)
+}
+
+// An enrolment, from the words after its letter: the sources before a stroke, the listeners after it.
 fn enrolment(heap: Global, line: &str) -> anyhow::Result<Change> {
     let mut words = line.split(' ').skip(1);
     let unit = number(words.next())?;
     let rank = number(words.next())?;
-    let mut sources = Vec::new(heap);
-    let mut listeners = Vec::new(heap);
-    let mut after = false;
-    for word in words {
-        if word == "/" {
-            after = true;
-        } else if after {
-            listeners.push(number(Some(word))?)?;
-        } else {
-            sources.push(number(Some(word))?)?;
-        }
-    }
+    let sources = words
+        .by_ref()
+        .take_while(|word| *word != "/")
+        .map(|word| number(Some(word)))
+        .try_collect(heap)?;
+    let listeners = words
+        .filter(|word| *word != "/")
+        .map(|word| number(Some(word)))
+        .try_collect(heap)?;
     Ok(Change::Enrol {
         unit,
         rank,
@@ -102,34 +120,28 @@ fn read_changes(rt: &HostRuntime) -> anyhow::Result<Vec<Change>> {
     let mut text = String::new(rt.alloc());
     let mut input = BufReader::new(rt.alloc(), rt.stdin())?;
     let _ = input.read_to_string(&mut text)?;
-    let mut changes = Vec::new(rt.alloc());
-    for line in text.as_str().lines() {
-        changes.push(parse_change(rt.alloc(), line)?)?;
-    }
-    Ok(changes)
-}
-
-// How the checksum goes on with some units.
-fn hashed(mut hash: u32, units: &[u8]) -> u32 {
-    for u in units {
-        hash = hash.wrapping_mul(31).wrapping_add(u32::from(*u));
-    }
-    hash
+    text.as_str()
+        .lines()
+        .map(|line| parse_change(rt.alloc(), line))
+        .try_collect(rt.alloc())
 }
 
 // The number of labels so far, and the checksum of their lists.
-#[derive(Clone, Copy)]
+#[derive(Clone, Copy, Default)]
 struct Summary {
-    labels: u32,
+    labels: usize,
     hash: u32,
 }
 
 impl Summary {
-    // With a list more, in the first n bytes of the buffer.
-    fn with(self, buffer: &[u8], n: usize) -> Summary {
+    // With a list more.
+    fn with(self, units: &[u8]) -> Summary {
         Summary {
-            labels: self.labels.saturating_add(counted(n)),
-            hash: hashed(self.hash, front(buffer, n)),
+            labels: self.labels.saturating_add(units.len()),
+            hash: units.iter().fold(
+                self.hash,
+                |hash, u| hash.wrapping_mul(31).wrapping_add(u32::from(*u)),
+            ),
         }
     }
 }
@@ -142,117 +154,68 @@ fn with_unit(book: &Book<Grid>, u: u8, so_far: Summary) -> Summary
     let Ok(n) = book.in_labels(u, &mut buffer) else {
         return so_far;
     };
-    let more = so_far.with(&buffer, n);
+    let more = so_far.with(&buffer[..n]);
     let Ok(n) = book.out_labels(u, &mut buffer) else {
         return more;
     };
-    more.with(&buffer, n)
+    more.with(&buffer[..n])
 }
 
 // Over the units by number.
 fn sum_up(book: &Book<Grid>) -> Summary
     requires { Whole grid_map book.now }
 {
-    let mut all = Summary { labels: 0, hash: 0 };
-    for u in 1..256u16 {
-        all = with_unit(book, u as u8, all);
-    }
-    all
+    (1..=u8::MAX).fold(Summary::default(), |all, u| with_unit(book, u, all))
 }
 
-fn counted(n: usize) -> u32 {
-    u32::try_from(n).unwrap_or(u32::MAX)
-}
-
-// The first n bytes, or all where there are fewer.
-fn front(bytes: &[u8], n: usize) -> &[u8] {
-    if n <= bytes.len() {
-        &bytes[0..n]
-    } else {
-        bytes
-    }
-}
-
-// Plays all changes, and adds up how long each kind took: enrolments after the first drop, pairings, drops.
-fn play_all(
-    rt: &HostRuntime,
-    book: &mut Book<Grid>,
-    changes: &[Change],
-) -> anyhow::Result<[Spent; 3]>
+// Plays all changes, and adds up how long each kind took.
+fn play_all(rt: &HostRuntime, book: &mut Book<Grid>, changes: &[Change]) -> anyhow::Result<Times>
     requires { Whole grid_map book.old }
     ensures { Whole grid_map book.new }
 {
-    let mut spent = [Spent { times: 0, nanos: 0 }; 3];
-    let mut dropped = false;
+    let mut times = Times::default();
     for change in changes {
         let began = Instant::now(rt)?;
         let _ = play(book, change);
-        let nanos = began.elapsed(rt)?.as_nanos();
-        let kind = match change {
-            Change::Enrol { .. } => 0,
-            Change::Pair(_, _) => 1,
-            Change::Drop(_) => 2,
-        };
-        dropped = dropped || kind == 2;
-        if dropped || kind == 1 {
-            spent[kind] = more(spent[kind], nanos);
+        let took = began.elapsed(rt)?;
+        match change {
+            Change::Enrol { .. } if times.drop.times == 0 => {}
+            Change::Enrol { .. } => times.enrol = times.enrol.with(took),
+            Change::Pair(_, _) => times.pair = times.pair.with(took),
+            Change::Drop(_) => times.drop = times.drop.with(took),
         }
     }
-    Ok(spent)
+    Ok(times)
 }
 
-fn more(spent: Spent, nanos: u128) -> Spent {
-    Spent {
-        times: spent.times.saturating_add(1),
-        nanos: spent.nanos.saturating_add(nanos),
-    }
+// How many units hear s.
+fn hearers_of(book: &Book<Grid>, s: u8) -> usize
+    requires { Whole grid_map book.now }
+{
+    (1..=u8::MAX)
+        .filter(|t| book.hear(s, *t) == Ok(true))
+        .count()
 }
 
 // How many of all questions whether one unit hears another are answered yes.
-fn heard_in_all(book: &Book<Grid>) -> u32
+fn heard_in_all(book: &Book<Grid>) -> usize
     requires { Whole grid_map book.now }
 {
-    let mut yes = 0u32;
-    for s in 1..256u16 {
-        yes = yes.saturating_add(hearers_of(book, s as u8));
-    }
-    yes
-}
-
-fn hearers_of(book: &Book<Grid>, s: u8) -> u32
-    requires { Whole grid_map book.now }
-{
-    let mut yes = 0u32;
-    for t in 1..256u16 {
-        if let Ok(true) = book.hear(s, t as u8) {
-            yes = yes.saturating_add(1);
-        }
-    }
-    yes
+    (1..=u8::MAX).fold(0usize, |yes, s| yes.saturating_add(hearers_of(book, s)))
 }
 
 // Whether the times are asked for.
 fn is_timed(rt: &HostRuntime) -> anyhow::Result<bool> {
-    for word in env::args(rt)?.skip(1) {
-        if word.as_str() == "time" {
-            return Ok(true);
-        }
-    }
-    Ok(false)
-}
-
-// Nanoseconds for each time.
-fn each(spent: Spent) -> u128 {
-    spent.nanos / u128::from(spent.times.max(1))
+    Ok(env::args(rt)?.skip(1).any(|word| word.as_str() == "time"))
 }
 
 // Tells the times on standard error.
-fn report(rt: &HostRuntime, book: &Book<Grid>, spent: [Spent; 3]) -> anyhow::Result<()>
+fn report(rt: &HostRuntime, book: &Book<Grid>, times: Times) -> anyhow::Result<()>
     requires { Whole grid_map book.now }
 {
-    let enrol = each(spent[0]);
-    let pair = each(spent[1]);
-    let drop = each(spent[2]);
+    let enrol = times.enrol.each();
+    let pair = times.pair.each();
+    let drop = times.drop.each();
     eprintln!(rt; "re-enrol: {enrol} ns, pair: {pair} ns, drop: {drop} ns")?;
     let began = Instant::now(rt)?;
     let yes = heard_in_all(book);
@@ -264,11 +227,11 @@ fn report(rt: &HostRuntime, book: &Book<Grid>, spent: [Spent; 3]) -> anyhow::Res
 fn main(rt: HostRuntime) -> anyhow::Result<()> {
     let changes = read_changes(&rt)?;
     let mut book = Book::make(Grid::new());
-    let spent = play_all(&rt, &mut book, changes.as_slice())?;
+    let times = play_all(&rt, &mut book, changes.as_slice())?;
     let Summary { labels, hash } = sum_up(&book);
     println!(rt; "labels: {labels} checksum: {hash}")?;
     if is_timed(&rt)? {
-        report(&rt, &book, spent)?;
+        report(&rt, &book, times)?;
     }
     Ok(())
 }

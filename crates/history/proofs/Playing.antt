@@ -5,8 +5,7 @@ use Rattle.plain.specs.Requests.{Request, run}
 use Rattle.histories.specs.Replies.{Reply, replies}
 use Rattle.histories.specs.Alters.{LawfulAlong}
 use Rattle.histories.proofs.Runs.{run-append, replies-append, along-append}
-use Rattle.history.specs.declared.calls.Answer.{Answer}
-use Rattle.history.specs.Calls.{reply_of, Turned}
+use Rattle.history.specs.Calls.{Answer, reply_of, Turned}
 use Rattle.history.specs.Played.{Played}
 
 pub map-append : {A B : Type 0} (f : A → B) (xs ys : List A) → map f (xs ++ ys) ≡ map f xs ++ map f ys

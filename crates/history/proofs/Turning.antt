@@ -1,6 +1,7 @@
 -- The answer to a call is the reply to its request, and the book is left as the request leaves it.
-use Rattle.std.proofs.Common.{◌≡◌, ℕ, ◌+◌, ◌*◌, ◌≤◌, ltb, List, [], ◌∷◌, ◌++◌, length, take, drop, IfOk, Some, None, Ok, Option, Result, sym, refl, ap, ◌∙◌, subst, arith, length-append}
+use Rattle.std.proofs.Common.{◌≡◌, ℕ, ◌+◌, ◌*◌, ◌≤◌, ltb, List, [], ◌∷◌, ◌++◌, length, take, drop, IfOk, IsOkAnd, MatchResult, Some, None, Ok, Err, Option, Result, sym, refl, ap, ◌∙◌, subst, arith, length-append}
 use Rattle.std.proofs.lemmas.Bool.{ltb-false}
+use Rattle.std.proofs.lemmas.Result.{MatchResult-at_ok, MatchResult-at_err}
 use Rattle.std.proofs.lemmas.List.{take_at, drop_at, length-take-le}
 use Rattle.theory.specs.Counts.{pair_count}
 use Rattle.plain.specs.declared.BookFault.{BookFault}
@@ -9,10 +10,10 @@ use Rattle.plain.specs.Plain.{Plain, map_of}
 use Rattle.plain.specs.Saving.{saved_page}
 use Rattle.plain.specs.Requests.{Request, Save, verdict, granted, step, unless, checks}
 use Rattle.book.proofs.Changing.{all-absent}
-use Rattle.book.specs.Answers.{answered, filled, placed, alters, Lists, Saves, Applied}
-use Rattle.histories.specs.Replies.{Reply, Written, Changed, replied, told}
-use Rattle.history.specs.declared.calls.Answer.{Answer}
-use Rattle.history.specs.Calls.{reply_of, part_written, change_told, Turned}
+use Rattle.book.specs.Answers.{answered, filled, placed, Lists, Saves}
+use Rattle.histories.specs.Replies.{Written, replied, told}
+use Rattle.history.specs.declared.calls.Told.{Told}
+use Rattle.history.specs.Calls.{Answer, reply_told, reply_of, part_written, Turned}
 
 -- a question leaves the book
 pub asked-left : (capacity : ℕ) (p : Plain) (r : Request) → granted p r ≡ p → p ≡ step capacity p r
@@ -75,18 +76,15 @@ module _ (capacity : ℕ) (p : Plain) (place : ℕ) (before : List ℕ) (answer 
           ∙ ap Written (take_at (saved_page p) rest (length (saved_page p)) refl)
       go (Some cause) w got end e f = ap (λ z. part_written z place end) e
 
--- a question that is told something
-pub question-turned : {A : Type 0} (capacity : ℕ) (p : Plain) (r : Request) (x y : A) (wrap : A → Reply) (a : Answer) → Ok x ≡ answered (verdict capacity p r) y → told p r ≡ wrap y → granted p r ≡ p → reply_of a ≡ wrap x → Turned capacity r p p a
-question-turned capacity p r x y wrap a e by same is = record { answered = is ∙ go (verdict capacity p r) e; left = asked-left capacity p r same }
+-- what the book told, wrapped, is the answer
+pub wrapped-turned : {A : Type 0} (capacity : ℕ) (p q : Plain) (r : Request) (x : A) (wrap : A → Told) (got : Result A BookFault) (a : Answer) → got ≡ answered (verdict capacity p r) x →
+    MatchResult got (λ y. IsOkAnd a (λ t. t ≡ wrap y)) (λ e. a ≡ Err e) → told p r ≡ reply_told (wrap x) → q ≡ step capacity p r → Turned capacity r p q a
+wrapped-turned {A = A} capacity p q r x wrap got a e cases by left = record { answered = go (verdict capacity p r) got e cases; left = left }
   where
-    go : (v : Option BookFault) → Ok x ≡ answered v y → wrap x ≡ replied v (told p r)
-    go None f = let equal : x ≡ y = cc in ap wrap equal ∙ sym by
-    go (Some cause) f = absurd (let z : ◌≡◌ {A = ℕ} 0 1 = cc in omega arith)
+    from_ok : (b : Answer) (y : Told) → IsOkAnd b (λ t. t ≡ y) → reply_of b ≡ reply_told y
+    from_ok (Ok t) y h = ap reply_told h
+    from_ok (Err cause) y h = absurd h
 
--- a change
-pub change-turned : (capacity : ℕ) (p q : Plain) (r : Request) (answer : Result ℕ BookFault) → Applied capacity p r answer q → told p r ≡ Changed (alters p (granted p r)) → (a : Answer) → reply_of a ≡ change_told answer → Turned capacity r p q a
-change-turned capacity p q r answer applied by a is = record { answered = is ∙ go (verdict capacity p r) answer applied.told; left = applied.left }
-  where
-    go : (v : Option BookFault) (got : Result ℕ BookFault) → got ≡ answered v (alters p (granted p r)) → change_told got ≡ replied v (told p r)
-    go None got e = ap change_told e ∙ sym by
-    go (Some cause) got e = ap change_told e
+    go : (v : Option BookFault) (got : Result A BookFault) → got ≡ answered v x → MatchResult got (λ y. IsOkAnd a (λ t. t ≡ wrap y)) (λ e. a ≡ Err e) → reply_of a ≡ replied v (told p r)
+    go None got e h = from_ok a (wrap x) (MatchResult-at_ok (λ y. IsOkAnd a (λ t. t ≡ wrap y)) (λ d. a ≡ Err d) x e h) ∙ sym by
+    go (Some cause) got e h = ap reply_of (MatchResult-at_err (λ y. IsOkAnd a (λ t. t ≡ wrap y)) (λ d. a ≡ Err d) cause e h)

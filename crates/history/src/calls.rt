@@ -10,14 +10,20 @@ pub enum List {
     OutHolders,
 }
 
+// The units that are paired to a new unit, and those that it is paired to.
+#[derive(Drop)]
+pub struct Partners {
+    pub sources: Vec<u8>,
+    pub listeners: Vec<u8>,
+}
+
 #[derive(Drop)]
 pub enum Call {
     Load(Vec<u8>),
     Enrol {
         unit: u8,
         rank: u8,
-        sources: Vec<u8>,
-        listeners: Vec<u8>,
+        with: Partners,
     },
     Drop(u8),
     Pair(u8, u8),
@@ -26,8 +32,7 @@ pub enum Call {
     Hear(u8, u8),
     BestPlace {
         unit: u8,
-        sources: Vec<u8>,
-        listeners: Vec<u8>,
+        with: Partners,
     },
     // one of the four lists of a unit, and how long a buffer is lent for it
     List {
@@ -47,9 +52,9 @@ pub enum Call {
     },
 }
 
+// What is told of a call that is granted.
 #[derive(Drop)]
-pub enum Answer {
-    Refused(BookFault),
+pub enum Told {
     // made, or loaded
     Done,
     // how many labels stand before or after, and not both
@@ -62,9 +67,5 @@ pub enum Answer {
     Reached(Option<u16>),
 }
 
-// How a book begins: empty, or empty and then loaded from a page.
-#[derive(Drop)]
-pub enum Start {
-    Empty,
-    Page(Vec<u8>),
-}
+// What a call is answered: what is told of it, or the cause for which it is refused.
+pub type Answer = Result<Told, BookFault>;

@@ -1,6 +1,7 @@
 // Any list of calls, put to a book over any store, granted or refused; and what is promised of the book and the answers.
 #![tactic(auto)]
 
+ghost use Rattle.std.specs.Option.{option_copied};
 ghost use Rattle.std.specs.Prelude.{[], ◌∷◌, ◌++◌, map, IfOk, OnOk};
 ghost use Rattle.plain.specs.Requests.{Make, Load};
 ghost use Rattle.book.specs.Views.{plain_of, Whole};
@@ -16,27 +17,9 @@ use std::alloc::{AllocError, Global};
 mod calls;
 mod turns;
 
-pub use calls::{Answer, Call, List, Start};
+pub use calls::{Answer, Call, List, Partners, Told};
 use turns::load;
 pub use turns::turn;
-
-// Puts the calls to the book one after the other, and adds their answers.
-fn play<S: Store>(
-    heap: Global,
-    book: &mut Book<S>,
-    answers: &mut Vec<Answer>,
-    calls: &[Call],
-) -> Result<(), AllocError>
-    requires { Whole S.Map.meaning book.old }
-    ensures played { OnOk result (Played S.Store.room (map request_of calls.now) (plain_of S.Map.meaning book.old) (plain_of S.Map.meaning book.new) answers.old.items answers.new.items) }
-    ensures whole { Whole S.Map.meaning book.new }
-{
-    for call in calls {
-        let answer = turn(heap, book, call)?;
-        answers.push(answer)?;
-    }
-    Ok(())
-}
 
 // A book that calls were put to, and their answers: the making first, then the load of a page where it began with one.
 #[derive(Drop)]
@@ -45,13 +28,28 @@ pub struct Replayed<S: Store> {
     pub answers: Vec<Answer>,
 }
 
+impl<S: Store> Replayed<S> {
+    // Puts the calls to the book one after the other, and adds their answers.
+    fn play(&mut self, heap: Global, calls: &[Call]) -> Result<(), AllocError>
+        requires { Whole S.Map.meaning self.old.book }
+        ensures played { OnOk result (Played S.Store.room (map request_of calls.now) (plain_of S.Map.meaning self.old.book) (plain_of S.Map.meaning self.new.book) self.old.answers.items self.new.answers.items) }
+        ensures whole { Whole S.Map.meaning self.new.book }
+    {
+        for call in calls {
+            let answer = turn(heap, &mut self.book, call)?;
+            self.answers.push(answer)?;
+        }
+        Ok(())
+    }
+}
+
 // Makes an empty book over the store.
 fn made_empty<S: Store + Drop>(heap: Global, store: S) -> Result<Replayed<S>, AllocError>
     ensures { IfOk result (λ x. Begun S.Map.meaning S.Store.room (Make ∷ []) x) }
 {
     let book = Book::make(store);
     let mut answers = Vec::new(heap);
-    answers.push(Answer::Done)?;
+    answers.push(Ok(Told::Done))?;
     Ok(Replayed { book, answers })
 }
 
@@ -66,13 +64,17 @@ fn loaded<S: Store + Drop>(mut empty: Replayed<S>, page: &[u8]) -> Result<Replay
 }
 
 // Makes a book over the store, empty or from a page.
-fn begin<S: Store + Drop>(heap: Global, store: S, start: &Start) -> Result<Replayed<S>, AllocError>
-    ensures { IfOk result (λ x. Begun S.Map.meaning S.Store.room (opening start.now) x) }
+fn begin<S: Store + Drop>(
+    heap: Global,
+    store: S,
+    page: Option<&[u8]>,
+) -> Result<Replayed<S>, AllocError>
+    ensures { IfOk result (λ x. Begun S.Map.meaning S.Store.room (opening (option_copied page.entry)) x) }
 {
     let empty = made_empty(heap, store)?;
-    match start {
-        Start::Empty => Ok(empty),
-        Start::Page(page) => loaded(empty, page.as_slice()),
+    match page {
+        None => Ok(empty),
+        Some(page) => loaded(empty, page),
     }
 }
 
@@ -80,12 +82,12 @@ fn begin<S: Store + Drop>(heap: Global, store: S, start: &Start) -> Result<Repla
 pub fn replay<S: Store + Drop>(
     heap: Global,
     store: S,
-    start: &Start,
+    page: Option<&[u8]>,
     calls: &[Call],
 ) -> Result<Replayed<S>, AllocError>
-    ensures { IfOk result (λ x. Promised S.Map.meaning S.Store.room (opening start.now ++ map request_of calls.now) x.book (map reply_of x.answers.items)) }
+    ensures { IfOk result (λ x. Promised S.Map.meaning S.Store.room (opening (option_copied page.entry) ++ map request_of calls.now) x.book (map reply_of x.answers.items)) }
 {
-    let mut replayed = begin(heap, store, start)?;
-    play(heap, &mut replayed.book, &mut replayed.answers, calls)?;
+    let mut replayed = begin(heap, store, page)?;
+    replayed.play(heap, calls)?;
     Ok(replayed)
 }

@@ -2,210 +2,217 @@
 // and a line that begins with # say nothing. A line that says something else is refused with its number and a place in it.
 #![tactic(auto)]
 
-use history::{Call, List, Start};
-use std::alloc::{AllocError, AllocFailed, Global};
+ghost use Rattle.std.specs.Prelude.{IfErr};
+ghost use Rattle.scripts.specs.Within.{Within};
+
+use history::{Call, List};
+use std::alloc::{AllocError, Global};
+use thiserror::Error;
 
 mod words;
 
 pub use words::Why;
-use words::{Flaw, Word, bytes, no_more, number, off_sheet, read_partners, size, words_of};
+use words::{Flaw, Words, place_of};
 
 // Where a script is no history: its line and the place in the line, both counted from 1, and why; or want of memory.
-#[derive(Clone, Copy)]
+#[derive(Clone, Copy, Debug, Error)]
 pub enum ScriptFault {
+    #[error("line {line}, place {place}: {why}")]
     Malformed { line: usize, place: usize, why: Why },
-    Memory,
+    #[error(transparent)]
+    Memory(AllocError),
 }
 
-impl From<AllocError> for ScriptFault {
-    fn from(_e: AllocError) -> ScriptFault {
-        ScriptFault::Memory
-    }
-}
-
-impl<T: Drop> From<AllocFailed<T>> for ScriptFault {
-    fn from(_e: AllocFailed<T>) -> ScriptFault {
-        ScriptFault::Memory
-    }
-}
-
-// A history: how the book begins, and the calls, each with the number of its line.
+// A history: the page with which the book begins, where it begins with one; and the calls with the numbers of their lines.
+// The calls are a list of their own, since `replay` takes them as one slice.
 #[derive(Drop)]
 pub struct Script {
-    pub start: Start,
+    pub page: Option<Vec<u8>>,
     pub calls: Vec<Call>,
     pub lines: Vec<usize>,
 }
 
-// What a line says.
+// What a line says that says something.
 #[derive(Drop)]
 enum Said {
-    Nothing,
     Start(Vec<u8>),
     Call(Call),
 }
 
 // The call of one of the four lists.
-fn list_call(words: &[Word], end: usize, list: List) -> Result<Call, Flaw> {
-    let unit = number(words, 1, end)?;
-    let room = size(words, 2, end)?;
-    no_more(words, 3)?;
-    Ok(Call::List { list, unit, room })
+fn list_call(words: &Words, list: List) -> Result<Call, Flaw> {
+    let unit = words.number(1)?;
+    let room = words.number::<u16>(2)?;
+    words.end(3)?;
+    Ok(Call::List {
+        list,
+        unit,
+        room: usize::from(room),
+    })
 }
 
 // Two units, and nothing after them.
-fn two(words: &[Word], end: usize) -> Result<(u8, u8), Flaw> {
-    let a = number(words, 1, end)?;
-    let b = number(words, 2, end)?;
-    no_more(words, 3)?;
+fn two(words: &Words) -> Result<(u8, u8), Flaw> {
+    let a = words.number(1)?;
+    let b = words.number(2)?;
+    words.end(3)?;
     Ok((a, b))
 }
 
-fn enrolment(heap: Global, words: &[Word], end: usize) -> Result<Call, Flaw> {
-    let unit = number(words, 1, end)?;
-    let rank = number(words, 2, end)?;
-    let with = read_partners(heap, words, 3)?;
+fn enrolment(heap: Global, words: &Words) -> Result<Call, Flaw> {
     Ok(Call::Enrol {
-        unit,
-        rank,
-        sources: with.sources,
-        listeners: with.listeners,
+        unit: words.number(1)?,
+        rank: words.number(2)?,
+        with: words.partners(heap, 3)?,
     })
 }
 
-fn best(heap: Global, words: &[Word], end: usize) -> Result<Call, Flaw> {
-    let unit = number(words, 1, end)?;
-    let with = read_partners(heap, words, 2)?;
+fn best(heap: Global, words: &Words) -> Result<Call, Flaw> {
     Ok(Call::BestPlace {
-        unit,
-        sources: with.sources,
-        listeners: with.listeners,
+        unit: words.number(1)?,
+        with: words.partners(heap, 2)?,
     })
 }
 
-// `reach S T`, then the units that are off after the word `off`, or a whole sheet after the word `sheet`.
-fn reach(heap: Global, words: &[Word], end: usize) -> Result<Call, Flaw> {
-    let source = number(words, 1, end)?;
-    let listener = number(words, 2, end)?;
-    let sheet = match words.get(3) {
-        None => off_sheet(heap, words, 3)?,
-        Some(w) => match w.text {
-            "off" => off_sheet(heap, words, 4)?,
-            "sheet" => {
-                no_more(words, 5)?;
-                bytes(heap, words, 4, end)?
-            }
-            _ => return Err(Flaw::At(w.place, Why::Rest)),
-        },
-    };
+// The sheet after the two units: the units that are off after the word `off`, or a whole sheet after the word `sheet`.
+fn sheet(heap: Global, words: &Words) -> Result<Vec<u8>, Flaw> {
+    if words.is(3, "sheet") {
+        words.end(5)?;
+        return words.bytes(heap, 4);
+    }
+    if !words.is(3, "off") {
+        words.end(3)?;
+    }
+    words.off_sheet(heap, 4)
+}
+
+// `reach S T`, and a sheet.
+fn reach(heap: Global, words: &Words) -> Result<Call, Flaw> {
     Ok(Call::Reach {
-        source,
-        listener,
-        sheet,
+        source: words.number(1)?,
+        listener: words.number(2)?,
+        sheet: sheet(heap, words)?,
     })
 }
 
 // The call of a change.
-fn change(heap: Global, words: &[Word], end: usize, name: &str) -> Result<Option<Call>, Flaw> {
-    let call = match name {
-        "enrol" => enrolment(heap, words, end)?,
+fn change(heap: Global, words: &Words) -> Result<Option<Call>, Flaw> {
+    let call = match words.name() {
+        "enrol" => enrolment(heap, words)?,
         "drop" => {
-            no_more(words, 2)?;
-            Call::Drop(number(words, 1, end)?)
+            words.end(2)?;
+            Call::Drop(words.number(1)?)
         }
         "pair" => {
-            let (a, b) = two(words, end)?;
+            let (a, b) = two(words)?;
             Call::Pair(a, b)
         }
         "unpair" => {
-            let (a, b) = two(words, end)?;
+            let (a, b) = two(words)?;
             Call::Unpair(a, b)
         }
         "rank" => {
-            let (unit, rank) = two(words, end)?;
+            let (unit, rank) = two(words)?;
             Call::Rank(unit, rank)
         }
         "load" => {
-            no_more(words, 2)?;
-            Call::Load(bytes(heap, words, 1, end)?)
+            words.end(2)?;
+            Call::Load(words.bytes(heap, 1)?)
         }
         _ => return Ok(None),
     };
     Ok(Some(call))
 }
 
+fn save(words: &Words) -> Result<Call, Flaw> {
+    let place = words.number::<u16>(1)?;
+    let room = words.number::<u16>(2)?;
+    words.end(3)?;
+    Ok(Call::Save {
+        place: usize::from(place),
+        room: usize::from(room),
+    })
+}
+
 // The call of a question.
-fn question(heap: Global, words: &[Word], end: usize, name: &str) -> Result<Call, Flaw> {
-    match name {
+fn question(heap: Global, words: &Words) -> Result<Call, Flaw> {
+    match words.name() {
         "hear" => {
-            let (s, t) = two(words, end)?;
+            let (s, t) = two(words)?;
             Ok(Call::Hear(s, t))
         }
-        "best" => best(heap, words, end),
-        "in-labels" => list_call(words, end, List::InLabels),
-        "out-labels" => list_call(words, end, List::OutLabels),
-        "in-holders" => list_call(words, end, List::InHolders),
-        "out-holders" => list_call(words, end, List::OutHolders),
-        "reach" => reach(heap, words, end),
-        "save" => {
-            let place = size(words, 1, end)?;
-            let room = size(words, 2, end)?;
-            no_more(words, 3)?;
-            Ok(Call::Save { place, room })
-        }
-        _ => Err(Flaw::At(1, Why::Call)),
+        "best" => best(heap, words),
+        "in-labels" => list_call(words, List::InLabels),
+        "out-labels" => list_call(words, List::OutLabels),
+        "in-holders" => list_call(words, List::InHolders),
+        "out-holders" => list_call(words, List::OutHolders),
+        "reach" => reach(heap, words),
+        "save" => save(words),
+        _ => Err(Flaw::At(0, Why::Call)),
     }
 }
 
 // What a line says. The book begins with a page only on the first line that says something.
-fn read_line(heap: Global, line: &str, first: bool) -> Result<Said, Flaw> {
+fn read_line(heap: Global, line: &str, first: bool) -> Result<Option<Said>, Flaw> {
     if line.is_empty() || line.starts_with('#') {
-        return Ok(Said::Nothing);
+        return Ok(None);
     }
-    let words = words_of(heap, line)?;
-    let end = line.len().saturating_add(1);
-    let all = words.as_slice();
-    let name = match all.get(0) {
-        Some(w) => w.text,
-        None => "",
-    };
-    if first && name == "start" {
-        no_more(all, 2)?;
-        return Ok(Said::Start(bytes(heap, all, 1, end)?));
+    let words = Words::of(heap, line)?;
+    if first && words.is(0, "start") {
+        words.end(2)?;
+        return Ok(Some(Said::Start(words.bytes(heap, 1)?)));
     }
-    match change(heap, all, end, name)? {
-        Some(call) => Ok(Said::Call(call)),
-        None => Ok(Said::Call(question(heap, all, end, name)?)),
+    match change(heap, &words)? {
+        Some(call) => Ok(Some(Said::Call(call))),
+        None => Ok(Some(Said::Call(question(heap, &words)?))),
+    }
+}
+
+impl Script {
+    fn empty(heap: Global) -> Script {
+        Script {
+            page: None,
+            calls: Vec::new(heap),
+            lines: Vec::new(heap),
+        }
+    }
+
+    // Whether no line has said anything.
+    fn is_empty(&self) -> bool {
+        self.page.is_none() && self.calls.is_empty()
+    }
+
+    // Adds what a line says.
+    fn add(&mut self, line: usize, said: Option<Said>) -> Result<(), AllocError> {
+        match said {
+            None => {}
+            Some(Said::Start(page)) => self.page = Some(page),
+            Some(Said::Call(call)) => {
+                self.calls.push(call)?;
+                self.lines.push(line)?;
+            }
+        }
+        Ok(())
     }
 }
 
 // The history that a text says.
-pub fn read(heap: Global, text: &str) -> Result<Script, ScriptFault> {
-    let mut start = Start::Empty;
-    let mut calls = Vec::new(heap);
-    let mut lines = Vec::new(heap);
-    let mut line: usize = 0;
-    let mut first = true;
-    for text_line in text.lines() {
-        line = line.saturating_add(1);
-        match read_line(heap, text_line, first) {
-            Ok(Said::Nothing) => {}
-            Ok(Said::Start(page)) => {
-                start = Start::Page(page);
-                first = false;
+pub fn read(heap: Global, text: &str) -> Result<Script, ScriptFault>
+    ensures { IfErr result (Within text.now) }
+{
+    let mut script = Script::empty(heap);
+    for (i, line) in text.lines().enumerate() {
+        match read_line(heap, line, script.is_empty()) {
+            Ok(said) => script.add(i + 1, said).map_err(ScriptFault::Memory)?,
+            Err(Flaw::At(word, why)) => {
+                return Err(ScriptFault::Malformed {
+                    line: i + 1,
+                    place: place_of(line, word),
+                    why,
+                });
             }
-            Ok(Said::Call(call)) => {
-                calls.push(call)?;
-                lines.push(line)?;
-                first = false;
-            }
-            Err(Flaw::At(place, why)) => return Err(ScriptFault::Malformed { line, place, why }),
-            Err(Flaw::Memory) => return Err(ScriptFault::Memory),
+            Err(Flaw::Memory(e)) => return Err(ScriptFault::Memory(e)),
         }
     }
-    Ok(Script {
-        start,
-        calls,
-        lines,
-    })
+    Ok(script)
 }

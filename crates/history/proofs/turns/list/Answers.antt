@@ -1,4 +1,4 @@
-use Rattle.std.proofs.Common.{◌≡◌, ℕ, refl}
+use Rattle.std.proofs.Common.{rules, ◌≡◌, ℕ, length, IfOk, refl, subst}
 use Rattle.std.proofs.lemmas.Result.{IfOk-weaker}
 use Rattle.plain.specs.Plain.{Plain}
 use Rattle.plain.specs.Requests.{granted}
@@ -6,7 +6,7 @@ use Rattle.book.specs.Views.{plain_of}
 use Rattle.histories.specs.Replies.{Written, told}
 use Rattle.history.specs.declared.calls.List.{List as Wanted}
 use Rattle.history.specs.declared.calls.List.TheVariants as wanted
-use Rattle.history.specs.Calls.{list_request, list_of}
+use Rattle.history.specs.Calls.{list_request, list_of, Turned}
 use Rattle.history.proofs.Turning.{list-fits, list-turned}
 use Rattle.history.proofs.turns.list.Goals as goal
 
@@ -29,6 +29,8 @@ written-requires g c = list-fits g.S.Store.room (plain_of g.S.Map.meaning c.args
 pub returns : goal.returns
 returns g c =
     let p = plain_of g.S.Map.meaning c.args.book.now in
-    IfOk-weaker c.written.result _ _
+    let e : length c.as_mut_slice-buffer.result.now ≡ c.args.room = search rules in
+    subst (λ (room : ℕ). IfOk c.written.result (λ a. Turned g.S.Store.room (list_request c.args.list c.args.unit room) p p a)) e
+    (IfOk-weaker c.written.result _ _
     (λ a is. list-turned g.S.Store.room p _ _ _ _ _ c.write_list-told.ensures a is (list-told c.args.list p c.args.unit _) (list_left c.args.list p c.args.unit _))
-    c.written.ensures
+    c.written.ensures)
