@@ -1,7 +1,7 @@
 -- Enrolling a unit: what the checks leave, and the change of the map and the order.
 use Rattle.std.proofs.Common.{◌≡◌, ℕ, ◌+◌, ◌-◌, ◌≤◌, Bool, true, false, not, ◌||◌, T, eqb, ◌⊎◌, List, ◌++◌, length, None, Ok, sym, refl, ap, ◌∙◌, subst, ⊎_elim, arith}
 use lib.Dec.{eqb_refl}
-use Rattle.std.proofs.lemmas.Bool.{or_parts, both_ways, eqb-false, ltb-false, false≢true}
+use Rattle.std.proofs.lemmas.Bool.{or_parts, both_ways, eqb-false, ltb-false}
 use Rattle.units.specs.declared.UnitSet.{UnitSet}
 use Rattle.units.specs.Has.{has}
 use Rattle.theory.specs.Maps.{Map, listed, enrolled}
