@@ -7,13 +7,15 @@ use Rattle.labels.specs.declared.Labels.{Labels}
 use Rattle.labels.specs.declared.ranked.Ranked.{Ranked}
 use Rattle.labels.specs.OfMaps.{ExactOf}
 use Rattle.labels.specs.Holding.{Exact}
-use Rattle.labels.specs.Listed.{Listed}
+use Rattle.labels.specs.Listed.{Listed, list_of}
+use Rattle.labels.specs.declared.lists.List.{List as Wanted}
+use Rattle.labels.specs.declared.lists.List.TheVariants as wanted
 use Rattle.theory.specs.Maps.{Map}
 use Rattle.plain.specs.declared.BookFault.{BookFault}
 use Rattle.plain.specs.declared.BookFault.TheVariants as fault
-use Rattle.plain.specs.Plain.{Plain}
+use Rattle.plain.specs.Plain.{Plain, map_of}
 use Rattle.plain.specs.Requests.{Request, Check, checks, first_cause, unknown, short_list, verdict}
-use Rattle.book.specs.Answers.{answered, filled, fault_of, Lists}
+use Rattle.book.specs.Answers.{answered, filled, fault_of, list_request, Lists}
 use Rattle.book.proofs.Answering.{no-cause, the-cause}
 
 -- the first of two lists of checks has the first word
@@ -32,6 +34,14 @@ cause-later (c ∷ cs) ds e = go c.1 (cause-later cs ds) e
     go : (b : Bool) → (first_cause cs ≡ None → first_cause (cs ++ ds) ≡ first_cause ds) → cond b (Some c.0) (first_cause cs) ≡ None → cond b (Some c.0) (first_cause (cs ++ ds)) ≡ first_cause ds
     go true next is = absurd (let z : ◌≡◌ {A = ℕ} 0 1 = cc in omega arith)
     go false next is = next is
+
+-- the checks of one of the lists
+pub list-checks : (capacity : ℕ) (p : Plain) (list : Wanted) (u room : ℕ) → checks capacity p (list_request list u room) ≡ short_list p (list_of list (map_of p) p.order u) u room
+unfolding checks
+list-checks capacity p wanted.InLabels u room = refl
+list-checks capacity p wanted.OutLabels u room = refl
+list-checks capacity p wanted.InHolders u room = refl
+list-checks capacity p wanted.OutHolders u room = refl
 
 module _ (capacity : ℕ) (p : Plain) (r : Request) (xs before : List ℕ) (u : ℕ) (is : checks capacity p r ≡ short_list p xs u (length before)) where
   pub list-refused : (cause : BookFault) (answer : Result ℕ BookFault) → Err cause ≡ answered (first_cause (unknown p (u ∷ []) ∷ [])) (tt {0}) → IsErrAnd answer (λ e. e ≡ cause) → Lists capacity p r xs before answer before

@@ -9,6 +9,9 @@ use Rattle.plain.specs.declared.BookFault.TheVariants as fault
 use Rattle.plain.specs.Plain.{Plain, map_of}
 use Rattle.plain.specs.Saving.{saved_page}
 use Rattle.plain.specs.Requests.{Request, Load, Save, verdict, granted, step}
+use Rattle.plain.specs.Requests as request
+use Rattle.labels.specs.declared.lists.List.{List as Wanted}
+use Rattle.labels.specs.declared.lists.List.TheVariants as wanted
 use Rattle.labels.specs.declared.lists.ShortBuffer.{ShortBuffer}
 
 -- The answer that a request gets: its cause of refusal, or else what it tells.
@@ -29,6 +32,13 @@ filled (Some cause) list buffer = buffer
 pub record Lists (capacity : ℕ) (p : Plain) (r : Request) (list before : List ℕ) (answer : Result ℕ BookFault) (after : List ℕ) : Type 0 where
   pub told : answer ≡ answered (verdict capacity p r) (length list)
   pub left : after ≡ filled (verdict capacity p r) list before
+
+-- One of the lists of a unit, as a request.
+abbrev pub list_request : Wanted → ℕ → ℕ → Request
+list_request wanted.InLabels unit room = request.InLabels unit room
+list_request wanted.OutLabels unit room = request.OutLabels unit room
+list_request wanted.InHolders unit room = request.InHolders unit room
+list_request wanted.OutHolders unit room = request.OutHolders unit room
 
 -- The fault of the kept labels, as a book's.
 abbrev pub fault_of : Result ℕ ShortBuffer → Result ℕ BookFault

@@ -4,6 +4,8 @@ use Rattle.theory.specs.Maps.{Map}
 use Rattle.theory.specs.Lists.{picked}
 use Rattle.ranks.specs.Orders.{order_of}
 use Rattle.labels.specs.declared.Labels.{Labels}
+use Rattle.labels.specs.declared.lists.List.{List as Wanted}
+use Rattle.labels.specs.declared.lists.List.TheVariants as wanted
 use Rattle.labels.specs.Holding.{holds, Exact}
 pub use Rattle.plain.specs.Plain.{plain_by}
 use Rattle.plain.specs.Plain.{Plain, map_of, Lawful}
@@ -37,3 +39,9 @@ module _ {S : Type 0} (means : S → Map) where
 
   abbrev pub kept_out_holders : Book S → ℕ → List ℕ
   kept_out_holders b u = picked (λ v. holds b.labels.outs u v) (order_of b.ranks)
+
+  abbrev pub kept_list : Wanted → Book S → ℕ → List ℕ
+  kept_list wanted.InLabels = kept_in_labels
+  kept_list wanted.OutLabels = kept_out_labels
+  kept_list wanted.InHolders = kept_in_holders
+  kept_list wanted.OutHolders = kept_out_holders

@@ -6,26 +6,26 @@ ghost use Rattle.std.specs.Prelude.{◌≡◌, ℕ, true, false, not, ◌||◌, 
 ghost use Rattle.units.specs.Has.{has};
 ghost use Rattle.theory.specs.Ranks.{Orders};
 ghost use Rattle.ranks.specs.Orders.{order_of};
+ghost use Rattle.labels.specs.Listed.{list_of};
 ghost use Rattle.mending.specs.Mended.{Mended};
-ghost use Rattle.theory.specs.Lists.{in_labels, out_labels, in_holders, out_holders};
 ghost use Rattle.plain.specs.Plain.{map_of, empty, hears};
 ghost use Rattle.plain.specs.Lists.{some, doubled};
-ghost use Rattle.plain.specs.Requests.{Hear, Enrol, Pair, Unpair, Drop, Rank, enrol_checks, partners, rank_checks, pair_checks, unpair_checks, InLabels, OutLabels, InHolders, OutHolders, first_cause, unknown, stands, verdict};
-ghost use Rattle.book.specs.Views.{plain_of, Whole, kept_in_labels, kept_out_labels, kept_in_holders, kept_out_holders};
-ghost use Rattle.book.specs.Answers.{answered, ByChains, Lists, Applied, fault_of};
+ghost use Rattle.plain.specs.Requests.{Hear, Enrol, Pair, Unpair, Drop, Rank, enrol_checks, partners as partner_checks, rank_checks, pair_checks, unpair_checks, first_cause, unknown, stands, verdict};
+ghost use Rattle.book.specs.Views.{plain_of, Whole, kept_list};
+ghost use Rattle.book.specs.Answers.{answered, ByChains, Lists, list_request, Applied, fault_of};
 
 use grid::Matrix;
 use labels::{Labels, List, Ranked, ShortBuffer};
 use maps::{Map, Store};
-use mending::mend;
-use partners::Partners;
+use mending::{Touched, mend};
+use partners::{Partners, all_known};
 use plain::BookFault;
 use ranks::Ranks;
-use units::UnitSet;
 
 mod pages;
 mod questions;
 
+// That the three agree is what every call asks and promises, and no invariant of the type: a store's meaning is its trait's.
 #[derive(Drop)]
 pub struct Book<S: Store> {
     store: S,
@@ -58,11 +58,11 @@ impl<S: Store> Book<S> {
         }
     }
 
-    // Whether both units stand, told by the fault that is shown where one does not.
-    fn check_both(&self, a: u8, b: u8) -> Result<(), BookFault>
-        ensures { result ≡ answered (first_cause (unknown (plain_of S.Map.meaning self.now) (a ∷ b ∷ []) ∷ [])) tt }
+    // Whether all these units stand, told by the fault that is shown where one does not.
+    fn check_known(&self, units: &[u8]) -> Result<(), BookFault>
+        ensures { result ≡ answered (first_cause (unknown (plain_of S.Map.meaning self.now) units.now ∷ [])) tt }
     {
-        if self.ranks.holds(a) && self.ranks.holds(b) {
+        if all_known(&self.ranks, units) {
             Ok(())
         } else {
             Err(BookFault::Unknown)
@@ -84,81 +84,43 @@ impl<S: Store> Book<S> {
         ensures told { result ≡ answered (verdict S.Store.room (plain_of S.Map.meaning self.now) (Hear s t)) (hears (plain_of S.Map.meaning self.now) t s) }
         ensures chains { ByChains (map_of (plain_of S.Map.meaning self.now)) s t result }
     {
-        self.check_both(s, t)?;
+        self.check_known(&[s, t])?;
         Ok(self.is_heard(s, t))
     }
 
-    // The same for one unit.
-    fn check_unit(&self, u: u8) -> Result<(), BookFault>
-        ensures { result ≡ answered (first_cause (unknown (plain_of S.Map.meaning self.now) (u ∷ []) ∷ [])) tt }
-    {
-        if self.ranks.holds(u) {
-            Ok(())
-        } else {
-            Err(BookFault::Unknown)
-        }
-    }
-
-    // The in-labels of u, the highest first, written from the buffer's start. Tells how many they are.
-    pub fn in_labels(&self, u: u8, buffer: &mut [u8]) -> Result<usize, BookFault>
+    // One of the lists of u, the highest first, written from the buffer's start. Tells how many they are.
+    pub fn list(&self, list: List, u: u8, buffer: &mut [u8]) -> Result<usize, BookFault>
         requires { Whole S.Map.meaning self.now }
-        ensures listed { Lists S.Store.room (plain_of S.Map.meaning self.now) (InLabels u (length buffer.old)) (in_labels (map_of (plain_of S.Map.meaning self.now)) (plain_of S.Map.meaning self.now).order u) buffer.old result buffer.new }
-        ensures kept { kept_in_labels S.Map.meaning self.now u ≡ in_labels (map_of (plain_of S.Map.meaning self.now)) (plain_of S.Map.meaning self.now).order u }
+        ensures listed { Lists S.Store.room (plain_of S.Map.meaning self.now) (list_request list u (length buffer.old)) (list_of list (map_of (plain_of S.Map.meaning self.now)) (plain_of S.Map.meaning self.now).order u) buffer.old result buffer.new }
+        ensures kept { kept_list S.Map.meaning list self.now u ≡ list_of list (map_of (plain_of S.Map.meaning self.now)) (plain_of S.Map.meaning self.now).order u }
     {
-        self.check_unit(u)?;
-        fitted(self.ranked().list(List::InLabels, u, buffer))
-    }
-
-    // The out-labels of u.
-    pub fn out_labels(&self, u: u8, buffer: &mut [u8]) -> Result<usize, BookFault>
-        requires { Whole S.Map.meaning self.now }
-        ensures listed { Lists S.Store.room (plain_of S.Map.meaning self.now) (OutLabels u (length buffer.old)) (out_labels (map_of (plain_of S.Map.meaning self.now)) (plain_of S.Map.meaning self.now).order u) buffer.old result buffer.new }
-        ensures kept { kept_out_labels S.Map.meaning self.now u ≡ out_labels (map_of (plain_of S.Map.meaning self.now)) (plain_of S.Map.meaning self.now).order u }
-    {
-        self.check_unit(u)?;
-        fitted(self.ranked().list(List::OutLabels, u, buffer))
-    }
-
-    // The units that have u among their in-labels.
-    pub fn in_holders(&self, u: u8, buffer: &mut [u8]) -> Result<usize, BookFault>
-        requires { Whole S.Map.meaning self.now }
-        ensures listed { Lists S.Store.room (plain_of S.Map.meaning self.now) (InHolders u (length buffer.old)) (in_holders (map_of (plain_of S.Map.meaning self.now)) (plain_of S.Map.meaning self.now).order u) buffer.old result buffer.new }
-        ensures kept { kept_in_holders S.Map.meaning self.now u ≡ in_holders (map_of (plain_of S.Map.meaning self.now)) (plain_of S.Map.meaning self.now).order u }
-    {
-        self.check_unit(u)?;
-        fitted(self.ranked().list(List::InHolders, u, buffer))
-    }
-
-    // The units that have u among their out-labels.
-    pub fn out_holders(&self, u: u8, buffer: &mut [u8]) -> Result<usize, BookFault>
-        requires { Whole S.Map.meaning self.now }
-        ensures listed { Lists S.Store.room (plain_of S.Map.meaning self.now) (OutHolders u (length buffer.old)) (out_holders (map_of (plain_of S.Map.meaning self.now)) (plain_of S.Map.meaning self.now).order u) buffer.old result buffer.new }
-        ensures kept { kept_out_holders S.Map.meaning self.now u ≡ out_holders (map_of (plain_of S.Map.meaning self.now)) (plain_of S.Map.meaning self.now).order u }
-    {
-        self.check_unit(u)?;
-        fitted(self.ranked().list(List::OutHolders, u, buffer))
+        self.check_known(&[u])?;
+        fitted(self.ranked().list(list, u, buffer))
     }
 
     // The units between which a change of a and b can alter labels: all that a hears, and all that hear b.
-    fn touched(&self, a: u8, b: u8) -> (UnitSet, UnitSet)
+    fn touched(&self, a: u8, b: u8) -> Touched
         requires whole { Whole S.Map.meaning self.now }
         requires stand { (stands (plain_of S.Map.meaning self.now) a ≡ true) × (stands (plain_of S.Map.meaning self.now) b ≡ true) }
-        ensures ups { (u : ℕ) → has result.0 u ≡ hears (plain_of S.Map.meaning self.now) a u }
-        ensures downs { (u : ℕ) → has result.1 u ≡ hears (plain_of S.Map.meaning self.now) u b }
+        ensures ups { (u : ℕ) → has result.ups u ≡ hears (plain_of S.Map.meaning self.now) a u }
+        ensures downs { (u : ℕ) → has result.downs u ≡ hears (plain_of S.Map.meaning self.now) u b }
     {
         let ranked = self.ranked();
-        (ranked.heard(a), ranked.hearers(b))
+        Touched {
+            ups: ranked.heard(a),
+            downs: ranked.hearers(b),
+        }
     }
 
     // Mends the labels after the store and the ranks have changed.
-    fn mend_labels(&mut self, ups: &UnitSet, downs: &UnitSet) -> u32
+    fn mend_labels(&mut self, touched: &Touched) -> u32
         requires { Orders (S.Map.meaning self.old.store) (order_of self.old.ranks) }
-        ensures mended { Mended (S.Map.meaning self.old.store) (order_of self.old.ranks) ups.now downs.now self.old.labels self.new.labels result }
+        ensures mended { Mended (S.Map.meaning self.old.store) (order_of self.old.ranks) touched.now.ups touched.now.downs self.old.labels self.new.labels result }
         ensures store { self.new.store ≡ self.old.store }
         ensures ranks { self.new.ranks ≡ self.old.ranks }
     {
         let map = Matrix::copy_of(&self.store);
-        mend(&mut self.labels, &map, self.ranks.as_slice(), ups, downs)
+        mend(&mut self.labels, &map, self.ranks.as_slice(), touched)
     }
 
     // The first cause for which a is not paired to b.
@@ -166,7 +128,7 @@ impl<S: Store> Book<S> {
         requires { Whole S.Map.meaning self.now }
         ensures { result ≡ answered (first_cause (pair_checks S.Store.room (plain_of S.Map.meaning self.now) a b)) tt }
     {
-        self.check_both(a, b)?;
+        self.check_known(&[a, b])?;
         if self.is_heard(b, a) {
             return Err(BookFault::Ring);
         }
@@ -182,7 +144,7 @@ impl<S: Store> Book<S> {
         requires { Whole S.Map.meaning self.now }
         ensures { result ≡ answered (first_cause (unpair_checks (plain_of S.Map.meaning self.now) a b)) tt }
     {
-        self.check_both(a, b)?;
+        self.check_known(&[a, b])?;
         if !self.store.paired(a, b) {
             return Err(BookFault::NotPaired);
         }
@@ -197,9 +159,9 @@ impl<S: Store> Book<S> {
         ensures kept { (cause : BookFault) → result ≡ Err cause → self.new ≡ self.old }
     {
         self.check_pair(a, b)?;
-        let (ups, downs) = self.touched(a, b);
+        let touched = self.touched(a, b);
         self.store.join(a, b)?;
-        Ok(self.mend_labels(&ups, &downs))
+        Ok(self.mend_labels(&touched))
     }
 
     // Takes the pairing of a to b away.
@@ -210,16 +172,16 @@ impl<S: Store> Book<S> {
         ensures kept { (cause : BookFault) → result ≡ Err cause → self.new ≡ self.old }
     {
         self.check_unpair(a, b)?;
-        let (ups, downs) = self.touched(a, b);
+        let touched = self.touched(a, b);
         self.store.part(a, b)?;
-        Ok(self.mend_labels(&ups, &downs))
+        Ok(self.mend_labels(&touched))
     }
 
     // The first cause for which v is not moved to the rank k.
     fn check_rank(&self, v: u8, k: u8) -> Result<(), BookFault>
         ensures { result ≡ answered (first_cause (rank_checks (plain_of S.Map.meaning self.now) v k)) tt }
     {
-        self.check_unit(v)?;
+        self.check_known(&[v])?;
         if k == 0 || k > self.ranks.len() {
             return Err(BookFault::RankOutside);
         }
@@ -233,11 +195,11 @@ impl<S: Store> Book<S> {
         ensures whole { Whole S.Map.meaning self.new }
         ensures kept { (cause : BookFault) → result ≡ Err cause → self.new ≡ self.old }
     {
-        self.check_unit(v)?;
-        let (ups, downs) = self.touched(v, v);
+        self.check_known(&[v])?;
+        let touched = self.touched(v, v);
         self.store.take(v)?;
         self.ranks.remove(v);
-        Ok(self.mend_labels(&ups, &downs))
+        Ok(self.mend_labels(&touched))
     }
 
     // Takes v out of the order and puts it back at rank k; the others keep their order.
@@ -248,49 +210,43 @@ impl<S: Store> Book<S> {
         ensures kept { (cause : BookFault) → result ≡ Err cause → self.new ≡ self.old }
     {
         self.check_rank(v, k)?;
-        let (ups, downs) = self.touched(v, v);
+        let touched = self.touched(v, v);
         self.ranks.move_to(k - 1, v);
-        Ok(self.mend_labels(&ups, &downs))
-    }
-
-    // Whether all units of both lists stand.
-    fn stand_both(&self, sources: &[u8], listeners: &[u8]) -> bool
-        ensures { result ≡ not (some (λ u. not (stands (plain_of S.Map.meaning self.now) u)) (sources.now ++ listeners.now)) }
-    {
-        Partners { sources, listeners }.all_known(&self.ranks)
+        Ok(self.mend_labels(&touched))
     }
 
     // Whether some source hears some listener.
-    fn makes_ring(&self, sources: &[u8], listeners: &[u8]) -> bool
+    fn makes_ring(&self, partners: &Partners) -> bool
         requires whole { Whole S.Map.meaning self.now }
-        requires stand { some (λ u. not (stands (plain_of S.Map.meaning self.now) u)) (sources.now ++ listeners.now) ≡ false }
-        ensures { result ≡ some (λ s. some (λ t. hears (plain_of S.Map.meaning self.now) s t) listeners.now) sources.now }
+        requires stand { some (λ u. not (stands (plain_of S.Map.meaning self.now) u)) (partners.now.sources.now ++ partners.now.listeners.now) ≡ false }
+        ensures { result ≡ some (λ s. some (λ t. hears (plain_of S.Map.meaning self.now) s t) partners.now.listeners.now) partners.now.sources.now }
     {
-        Partners { sources, listeners }.make_ring(&self.ranked())
+        partners.make_ring(&self.ranked())
     }
 
     // The first cause for which a unit cannot have the partners.
-    fn check_partners(&self, sources: &[u8], listeners: &[u8]) -> Result<(), BookFault>
+    fn check_partners(&self, partners: &Partners) -> Result<(), BookFault>
         requires { Whole S.Map.meaning self.now }
-        ensures { result ≡ answered (first_cause (partners S.Store.room (plain_of S.Map.meaning self.now) sources.now listeners.now)) tt }
+        ensures { result ≡ answered (first_cause (partner_checks S.Store.room (plain_of S.Map.meaning self.now) partners.now.sources.now partners.now.listeners.now)) tt }
     {
-        if !self.stand_both(sources, listeners) {
+        if !partners.all_known(&self.ranks) {
             return Err(BookFault::Unknown);
         }
-        if double_in_one(sources, listeners) {
+        if partners.any_doubled() {
             return Err(BookFault::Doubled);
         }
-        if self.makes_ring(sources, listeners) {
+        if self.makes_ring(partners) {
             return Err(BookFault::Ring);
         }
-        self.store.has_room(sources.len() + listeners.len())?;
+        self.store
+            .has_room(partners.sources.len() + partners.listeners.len())?;
         Ok(())
     }
 
     // The first cause for which v is not enrolled at the rank k with the partners.
-    fn check_enrol(&self, v: u8, k: u8, sources: &[u8], listeners: &[u8]) -> Result<(), BookFault>
+    fn check_enrol(&self, v: u8, k: u8, partners: &Partners) -> Result<(), BookFault>
         requires { Whole S.Map.meaning self.now }
-        ensures { result ≡ answered (first_cause (enrol_checks S.Store.room (plain_of S.Map.meaning self.now) v k sources.now listeners.now)) tt }
+        ensures { result ≡ answered (first_cause (enrol_checks S.Store.room (plain_of S.Map.meaning self.now) v k partners.now.sources.now partners.now.listeners.now)) tt }
     {
         if v == 0 {
             return Err(BookFault::Zero);
@@ -301,7 +257,7 @@ impl<S: Store> Book<S> {
         if k == 0 || u16::from(k) > u16::from(self.ranks.len()) + 1 {
             return Err(BookFault::RankOutside);
         }
-        self.check_partners(sources, listeners)
+        self.check_partners(partners)
     }
 
     // Enrols v at the rank k: units from there on move down, each source is paired to v and v to each listener.
@@ -317,15 +273,15 @@ impl<S: Store> Book<S> {
         ensures whole { Whole S.Map.meaning self.new }
         ensures kept { (cause : BookFault) → result ≡ Err cause → self.new ≡ self.old }
     {
-        self.check_enrol(v, k, sources, listeners)?;
         let partners = Partners { sources, listeners };
+        self.check_enrol(v, k, &partners)?;
         let mut ups = partners.heard(&self.ranked());
         let mut downs = partners.hearers(&self.ranked());
         ups.insert(v);
         downs.insert(v);
         partners.attach(&mut self.store, v)?;
         self.ranks.insert(k - 1, v);
-        Ok(self.mend_labels(&ups, &downs))
+        Ok(self.mend_labels(&Touched { ups, downs }))
     }
 }
 
@@ -333,15 +289,5 @@ impl<S: Store> Book<S> {
 fn fitted(answer: Result<usize, ShortBuffer>) -> Result<usize, BookFault>
     ensures { result ≡ fault_of answer }
 {
-    match answer {
-        Ok(n) => Ok(n),
-        Err(_) => Err(BookFault::ShortBuffer),
-    }
-}
-
-// Whether a unit stands twice in one of the lists.
-fn double_in_one(sources: &[u8], listeners: &[u8]) -> bool
-    ensures { result ≡ (doubled sources.now || doubled listeners.now) }
-{
-    Partners { sources, listeners }.any_doubled()
+    answer.map_err(|_| BookFault::ShortBuffer)
 }

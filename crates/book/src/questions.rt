@@ -19,7 +19,7 @@ impl<S: Store> Book<S> {
     fn check_reach(&self, s: u8, t: u8, sheet: &[u8]) -> Result<(), BookFault>
         ensures { result ≡ answered (first_cause (reach_checks (plain_of S.Map.meaning self.now) s t sheet.now)) tt }
     {
-        self.check_both(s, t)?;
+        self.check_known(&[s, t])?;
         if !is_lawful(sheet) {
             return Err(BookFault::BadSheet);
         }
@@ -39,9 +39,9 @@ impl<S: Store> Book<S> {
     }
 
     // The first cause for which v could not be enrolled with the partners at any rank.
-    fn check_place(&self, v: u8, sources: &[u8], listeners: &[u8]) -> Result<(), BookFault>
+    fn check_place(&self, v: u8, partners: &Partners) -> Result<(), BookFault>
         requires { Whole S.Map.meaning self.now }
-        ensures { result ≡ answered (first_cause (place_checks S.Store.room (plain_of S.Map.meaning self.now) v sources.now listeners.now)) tt }
+        ensures { result ≡ answered (first_cause (place_checks S.Store.room (plain_of S.Map.meaning self.now) v partners.now.sources.now partners.now.listeners.now)) tt }
     {
         if v == 0 {
             return Err(BookFault::Zero);
@@ -49,7 +49,7 @@ impl<S: Store> Book<S> {
         if self.ranks.holds(v) {
             return Err(BookFault::Standing);
         }
-        self.check_partners(sources, listeners)
+        self.check_partners(partners)
     }
 
     // The rank at which enrolling v would leave the fewest labels in all, the least of equal ranks, and how many they would be.
@@ -58,8 +58,8 @@ impl<S: Store> Book<S> {
         ensures told { result ≡ answered (verdict S.Store.room (plain_of S.Map.meaning self.now) (BestPlace v sources.now listeners.now)) (place_by (best_told (plain_of S.Map.meaning self.now) v sources.now listeners.now)) }
         ensures best { ByBest (plain_of S.Map.meaning self.now) v sources.now listeners.now result }
     {
-        self.check_place(v, sources, listeners)?;
         let partners = Partners { sources, listeners };
+        self.check_place(v, &partners)?;
         Ok(best_place(&self.store, &self.ranks, v, &partners))
     }
 }

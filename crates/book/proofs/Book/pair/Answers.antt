@@ -23,8 +23,8 @@ returns-in_err-join g c =
     let none = join-granted g.S.Store.room _ _ _ k c.args.a c.args.b (no-cause _ (tt {0}) c.in_ok-check_pair.ensures) in
     absurd (let z : ◌≡◌ {A = ℕ} 0 1 = cc (none, c.in_err-join.ensures.0) in omega arith)
 
-pub touched-requires : goal.touched-requires
-touched-requires g c =
+pub touched-touched-requires : goal.touched-touched-requires
+touched-touched-requires g c =
     let m = g.S.Map.meaning c.args.self.now.store in
     let order = order_of c.args.self.now.ranks in
     let passed = no-cause _ (tt {0}) c.in_ok-check_pair.ensures in
@@ -37,7 +37,7 @@ returns g c =
     let k = keeps m order c.args.self.now.labels c.requires in
     let passed = no-cause _ (tt {0}) c.in_ok-check_pair.ensures in
     let left = c.in_ok-join.ensures.1 in
-    let done = pair-done g.S.Store.room m order c.args.self.now.labels k c.args.a c.args.b passed c.touched.result.0 c.touched.result.1 c.touched.ensures.ups c.touched.ensures.downs
+    let done = pair-done g.S.Store.room m order c.args.self.now.labels k c.args.a c.args.b passed c.touched-touched.result.ups c.touched-touched.result.downs c.touched-touched.ensures.ups c.touched-touched.ensures.downs
     c.mend_labels.new.self.labels c.mend_labels.result (g.S.Map.meaning c.mend_labels.new.self.store) (order_of c.mend_labels.new.self.ranks)
     (mended-at _ (with_pair c.args.a c.args.b m) _ order _ _ _ _ _ left refl c.mend_labels.ensures.mended)
     (ap g.S.Map.meaning c.mend_labels.ensures.store ∙ left) (ap order_of c.mend_labels.ensures.ranks) in

@@ -19,8 +19,8 @@ returns-in_err-check_rank g c = record {
   kept = λ cause e. refl;
 }
 
-pub touched-requires : goal.touched-requires
-touched-requires g c =
+pub touched-touched-requires : goal.touched-touched-requires
+touched-touched-requires g c =
     let m = g.S.Map.meaning c.args.self.now.store in
     let order = order_of c.args.self.now.ranks in
     let passed = no-cause _ (tt {0}) c.in_ok-check_rank.ensures in
@@ -42,7 +42,7 @@ returns g c =
     let order = order_of c.args.self.now.ranks in
     let k = keeps m order c.args.self.now.labels c.requires in
     let passed = no-cause _ (tt {0}) c.in_ok-check_rank.ensures in
-    let done = rank-done m order c.args.self.now.labels k c.args.v g.S.Store.room c.args.k passed c.touched.result.0 c.touched.result.1 c.touched.ensures.ups c.touched.ensures.downs
+    let done = rank-done m order c.args.self.now.labels k c.args.v g.S.Store.room c.args.k passed c.touched-touched.result.ups c.touched-touched.result.downs c.touched-touched.ensures.ups c.touched-touched.ensures.downs
     c.mend_labels.new.self.labels c.mend_labels.result (g.S.Map.meaning c.mend_labels.new.self.store) (order_of c.mend_labels.new.self.ranks)
     (mended-at _ (m) _ (moved (c.args.k - 1) c.args.v order) _ _ _ _ _ refl c.move_to.ensures c.mend_labels.ensures.mended)
     (ap g.S.Map.meaning c.mend_labels.ensures.store) (ap order_of c.mend_labels.ensures.ranks ∙ c.move_to.ensures) in

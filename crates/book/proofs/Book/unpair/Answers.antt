@@ -17,8 +17,8 @@ returns-in_err-check_unpair g c = record {
   kept = λ cause e. refl;
 }
 
-pub touched-requires : goal.touched-requires
-touched-requires g c =
+pub touched-touched-requires : goal.touched-touched-requires
+touched-touched-requires g c =
     let m = g.S.Map.meaning c.args.self.now.store in
     let order = order_of c.args.self.now.ranks in
     let passed = no-cause _ (tt {0}) c.in_ok-check_unpair.ensures in
@@ -31,7 +31,7 @@ returns g c =
     let k = keeps m order c.args.self.now.labels c.requires in
     let passed = no-cause _ (tt {0}) c.in_ok-check_unpair.ensures in
     let left = c.in_ok-part.ensures.1 in
-    let done = unpair-done g.S.Store.room m order c.args.self.now.labels k c.args.a c.args.b passed c.touched.result.0 c.touched.result.1 c.touched.ensures.ups c.touched.ensures.downs
+    let done = unpair-done g.S.Store.room m order c.args.self.now.labels k c.args.a c.args.b passed c.touched-touched.result.ups c.touched-touched.result.downs c.touched-touched.ensures.ups c.touched-touched.ensures.downs
     c.mend_labels.new.self.labels c.mend_labels.result (g.S.Map.meaning c.mend_labels.new.self.store) (order_of c.mend_labels.new.self.ranks)
     (mended-at _ (without_pair c.args.a c.args.b m) _ order _ _ _ _ _ left refl c.mend_labels.ensures.mended)
     (ap g.S.Map.meaning c.mend_labels.ensures.store ∙ left) (ap order_of c.mend_labels.ensures.ranks) in
