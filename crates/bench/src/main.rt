@@ -11,6 +11,7 @@ ghost use Rattle.book.specs.Views.{Whole};
 use anyhow::{Context, anyhow};
 use book::Book;
 use grid::Grid;
+use labels::List;
 use plain::BookFault;
 use std::alloc::Global;
 use std::env;
@@ -151,11 +152,11 @@ fn with_unit(book: &Book<Grid>, u: u8, so_far: Summary) -> Summary
     requires { Whole grid_map book.now }
 {
     let mut buffer = [0u8; 255];
-    let Ok(n) = book.in_labels(u, &mut buffer) else {
+    let Ok(n) = book.list(List::InLabels, u, &mut buffer) else {
         return so_far;
     };
     let more = so_far.with(&buffer[..n]);
-    let Ok(n) = book.out_labels(u, &mut buffer) else {
+    let Ok(n) = book.list(List::OutLabels, u, &mut buffer) else {
         return more;
     };
     more.with(&buffer[..n])

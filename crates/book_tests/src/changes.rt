@@ -2,6 +2,7 @@
 ghost use Rattle.book.specs.Views.{Whole};
 
 use book::Book;
+pub use labels::List;
 use maps::Store;
 use plain::BookFault;
 
@@ -17,15 +18,6 @@ pub enum Change<'a> {
     Pair(u8, u8),
     Unpair(u8, u8),
     Rank(u8, u8),
-}
-
-// The lists that a book tells of a unit.
-#[derive(Clone, Copy, Debug)]
-pub enum List {
-    InLabels,
-    OutLabels,
-    InHolders,
-    OutHolders,
 }
 
 pub fn enrol<'a>(unit: u8, rank: u8, sources: &'a [u8], listeners: &'a [u8]) -> Change<'a> {
@@ -65,10 +57,5 @@ pub fn ask<S: Store>(
 ) -> Result<usize, BookFault>
     requires { Whole S.Map.meaning book.now }
 {
-    match list {
-        List::InLabels => book.in_labels(u, buffer),
-        List::OutLabels => book.out_labels(u, buffer),
-        List::InHolders => book.in_holders(u, buffer),
-        List::OutHolders => book.out_holders(u, buffer),
-    }
+    book.list(list, u, buffer)
 }

@@ -1,6 +1,6 @@
 -- Calls as requests, and answers as replies.
 use Rattle.std.specs.Prelude.{◌≡◌, ℕ, List, [], ◌∷◌, take, drop, Some, None, Ok, Err, vec_items, Option, Result}
-use Rattle.theory.specs.Lists.{in_labels, out_labels, in_holders, out_holders}
+use Rattle.book.specs.Answers.{list_request}
 use Rattle.plain.specs.declared.BookFault.{BookFault}
 use Rattle.plain.specs.Plain.{Plain, map_of}
 use Rattle.plain.specs.Requests as request
@@ -9,23 +9,8 @@ use Rattle.histories.specs.Replies as reply
 use Rattle.histories.specs.Replies.{Reply}
 use Rattle.history.specs.declared.calls.Call.{Call}
 use Rattle.history.specs.declared.calls.Call.TheVariants as call
-use Rattle.history.specs.declared.calls.List.{List as Wanted}
-use Rattle.history.specs.declared.calls.List.TheVariants as wanted
 use Rattle.history.specs.declared.calls.Told.{Told}
 use Rattle.history.specs.declared.calls.Told.TheVariants as told
-
-abbrev pub list_request : Wanted → ℕ → ℕ → Request
-list_request wanted.InLabels unit room = request.InLabels unit room
-list_request wanted.OutLabels unit room = request.OutLabels unit room
-list_request wanted.InHolders unit room = request.InHolders unit room
-list_request wanted.OutHolders unit room = request.OutHolders unit room
-
--- The list of a unit that is wanted, by the definition.
-abbrev pub list_of : Wanted → Plain → ℕ → List ℕ
-list_of wanted.InLabels p unit = in_labels (map_of p) p.order unit
-list_of wanted.OutLabels p unit = out_labels (map_of p) p.order unit
-list_of wanted.InHolders p unit = in_holders (map_of p) p.order unit
-list_of wanted.OutHolders p unit = out_holders (map_of p) p.order unit
 
 abbrev pub request_of : Call → Request
 request_of (call.Load page) = request.Load (vec_items page)

@@ -1,14 +1,7 @@
 // The calls that can be put to a book, and what is answered to them.
+use labels::List;
 use places::Place;
 use plain::BookFault;
-
-#[derive(Clone, Copy)]
-pub enum List {
-    InLabels,
-    OutLabels,
-    InHolders,
-    OutHolders,
-}
 
 // The units that are paired to a new unit, and those that it is paired to.
 #[derive(Drop)]

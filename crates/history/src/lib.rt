@@ -17,7 +17,8 @@ use std::alloc::{AllocError, Global};
 mod calls;
 mod turns;
 
-pub use calls::{Answer, Call, List, Partners, Told};
+pub use calls::{Answer, Call, Partners, Told};
+pub use labels::List;
 use turns::load;
 pub use turns::turn;
 

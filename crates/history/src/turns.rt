@@ -2,11 +2,12 @@
 ghost use Rattle.std.specs.Prelude.{◌≡◌, ℕ, ◌+◌, ◌≤◌, length, IfOk};
 ghost use Rattle.plain.specs.Requests.{Load, Enrol, Drop, Pair, Unpair, Rank, Hear, BestPlace, Reach, Save};
 ghost use Rattle.book.specs.Views.{plain_of, Whole};
-ghost use Rattle.book.specs.Answers.{Lists};
-ghost use Rattle.history.specs.Calls.{list_request, list_of, request_of, reply_of, part_written, Turned};
+ghost use Rattle.book.specs.Answers.{list_request};
+ghost use Rattle.history.specs.Calls.{request_of, reply_of, part_written, Turned};
 
-use crate::calls::{Answer, Call, List, Told};
+use crate::calls::{Answer, Call, Told};
 use book::Book;
+use labels::List;
 use maps::{Map, Store};
 use plain::BookFault;
 use std::alloc::{AllocError, Global};
@@ -27,24 +28,6 @@ fn written(
     }
 }
 
-// Writes one of the four lists of a unit.
-fn write_list<S: Store>(
-    book: &Book<S>,
-    list: List,
-    unit: u8,
-    buffer: &mut [u8],
-) -> Result<usize, BookFault>
-    requires { Whole S.Map.meaning book.now }
-    ensures { Lists S.Store.room (plain_of S.Map.meaning book.now) (list_request list unit (length buffer.old)) (list_of list (plain_of S.Map.meaning book.now) unit) buffer.old result buffer.new }
-{
-    match list {
-        List::InLabels => book.in_labels(unit, buffer),
-        List::OutLabels => book.out_labels(unit, buffer),
-        List::InHolders => book.in_holders(unit, buffer),
-        List::OutHolders => book.out_holders(unit, buffer),
-    }
-}
-
 // One of the four lists of a unit, by a buffer of so many bytes.
 fn list<S: Store>(
     heap: Global,
@@ -58,7 +41,7 @@ fn list<S: Store>(
 {
     let mut lent = vec![in heap; 0u8; room]?;
     let buffer = lent.as_mut_slice();
-    let told = write_list(book, list, unit, buffer);
+    let told = book.list(list, unit, buffer);
     written(heap, told, 0, buffer)
 }
 
