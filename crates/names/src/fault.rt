@@ -34,8 +34,7 @@ impl NameFault {
         ensures { result ≡ name_place self }
     {
         match self {
-            NameFault::Unknown(place) => place,
-            NameFault::Taken(place) => place,
+            NameFault::Unknown(place) | NameFault::Taken(place) => place,
         }
     }
 }
