@@ -10,15 +10,18 @@ ghost use Rattle.grammar.specs.Grammar.{IsName, LawfulFields, fields, Enrol, Dro
 ghost use Rattle.names.specs.Cards.{names_of};
 ghost use Rattle.plain_named.specs.Named.{nobody};
 ghost use Rattle.named.specs.Views.{named_of, Agreed, CarriedOut};
-ghost use Rattle.plain_named.specs.Calls.{Answered, ToldByChains, both_found};
+ghost use Rattle.plain_named.specs.Calls.{Answered, ToldByChains};
+
+mod two_names;
 
 use answers::{LineFault, Refusal, Told, write_answer};
 use book::Book;
 use lines::{Line, parse};
 use maps::Store;
-use names::{Cards, NameFault};
+use names::Cards;
 use placing::{digits, with_place};
 use plain::BookFault;
+use two_names::TwoNames;
 
 // Each call keeps the book and the cards in agreement and promises it; between the two writes of one call they differ, so it
 // is no invariant of the type.
@@ -35,16 +38,6 @@ fn is_short(buffer: &[u8]) -> bool
     buffer.len() < 16
 }
 
-// The units of two names, the first of which begins at place 3 of its line.
-fn both(cards: &Cards, source: &[u8], listener: &[u8]) -> Result<(u8, u8), NameFault>
-    requires { length source.now ≤ 16 }
-    ensures { result ≡ both_found (names_of cards.now) source.now listener.now }
-{
-    let a = cards.number_of(source, 3)?;
-    let b = cards.number_of(listener, 4 + source.len() as u8)?;
-    Ok((a, b))
-}
-
 impl<S: Store> NamedBook<S> {
     // A named book with no unit, over a store that is cleared first.
     pub fn make(store: S) -> NamedBook<S>
@@ -58,41 +51,38 @@ impl<S: Store> NamedBook<S> {
     }
 
     // Pairs the one to the other.
-    fn pair(&mut self, source: &[u8], listener: &[u8]) -> Result<Told, LineFault>
-        requires agreed { Agreed S.Map.meaning self.old }
-        requires short { length source.now ≤ 16 }
-        ensures { CarriedOut S.Map.meaning S.Store.room self.old (Pair source.now listener.now) result self.new }
+    fn pair(&mut self, names: TwoNames<'_>) -> Result<Told, LineFault>
+        requires { Agreed S.Map.meaning self.old }
+        ensures { CarriedOut S.Map.meaning S.Store.room self.old (Pair names.entry.source.now names.entry.listener.now) result self.new }
     {
-        let (a, b) = both(&self.cards, source, listener)?;
+        let (a, b) = names.units(&self.cards)?;
         let labels = self.book.pair(a, b)?;
         Ok(Told::Changed(labels))
     }
 
     // Takes the pairing of the one to the other away.
-    fn unpair(&mut self, source: &[u8], listener: &[u8]) -> Result<Told, LineFault>
-        requires agreed { Agreed S.Map.meaning self.old }
-        requires short { length source.now ≤ 16 }
-        ensures { CarriedOut S.Map.meaning S.Store.room self.old (Unpair source.now listener.now) result self.new }
+    fn unpair(&mut self, names: TwoNames<'_>) -> Result<Told, LineFault>
+        requires { Agreed S.Map.meaning self.old }
+        ensures { CarriedOut S.Map.meaning S.Store.room self.old (Unpair names.entry.source.now names.entry.listener.now) result self.new }
     {
-        let (a, b) = both(&self.cards, source, listener)?;
+        let (a, b) = names.units(&self.cards)?;
         let labels = self.book.unpair(a, b)?;
         Ok(Told::Changed(labels))
     }
 
     // Whether the listener hears the source.
-    fn hear(&self, source: &[u8], listener: &[u8]) -> Result<Told, LineFault>
-        requires agreed { Agreed S.Map.meaning self.now }
-        requires short { length source.now ≤ 16 }
-        ensures { CarriedOut S.Map.meaning S.Store.room self.now (Hear source.now listener.now) result self.now }
+    fn hear(&self, names: TwoNames<'_>) -> Result<Told, LineFault>
+        requires { Agreed S.Map.meaning self.now }
+        ensures { CarriedOut S.Map.meaning S.Store.room self.now (Hear names.entry.source.now names.entry.listener.now) result self.now }
     {
-        let (a, b) = both(&self.cards, source, listener)?;
+        let (a, b) = names.units(&self.cards)?;
         let hears = self.book.hear(a, b)?;
         Ok(Told::Heard(hears))
     }
 
     // Moves the unit to the rank.
     fn rank(&mut self, name: &[u8], rank: u8) -> Result<Told, LineFault>
-        requires agreed { Agreed S.Map.meaning self.old }
+        requires { Agreed S.Map.meaning self.old }
         ensures { CarriedOut S.Map.meaning S.Store.room self.old (Rank name.now rank) result self.new }
     {
         let unit = self.cards.number_of(name, 3)?;
@@ -102,7 +92,7 @@ impl<S: Store> NamedBook<S> {
 
     // Drops the unit, and makes its card blank.
     fn drop_unit(&mut self, name: &[u8]) -> Result<Told, LineFault>
-        requires agreed { Agreed S.Map.meaning self.old }
+        requires { Agreed S.Map.meaning self.old }
         ensures { CarriedOut S.Map.meaning S.Store.room self.old (Drop name.now) result self.new }
     {
         let unit = self.cards.number_of(name, 3)?;
@@ -132,10 +122,10 @@ impl<S: Store> NamedBook<S> {
         match line {
             Line::Enrol { number, name, rank } => self.enrol(number, name, rank),
             Line::Drop { name } => self.drop_unit(name),
-            Line::Pair { source, listener } => self.pair(source, listener),
-            Line::Unpair { source, listener } => self.unpair(source, listener),
+            Line::Pair { source, listener } => self.pair(TwoNames { source, listener }),
+            Line::Unpair { source, listener } => self.unpair(TwoNames { source, listener }),
             Line::Rank { name, rank } => self.rank(name, rank),
-            Line::Hear { source, listener } => self.hear(source, listener),
+            Line::Hear { source, listener } => self.hear(TwoNames { source, listener }),
         }
     }
 

@@ -9,7 +9,7 @@ use Rattle.named.proofs.NamedBook.drop_unit.Goals as goal
 pub returns-in_err-unit : goal.returns-in_err-unit
 unfolding asked
 returns-in_err-unit g c =
-    name-refused g.S.Map.meaning g.S.Store.room c.args.self.now (said.Drop c.args.name.now) c.requires.agreed _ (one-refused (names_of c.args.self.now.cards) Drop c.args.name.now _ c.in_err-unit.ensures)
+    name-refused g.S.Map.meaning g.S.Store.room c.args.self.now (said.Drop c.args.name.now) c.requires _ (one-refused (names_of c.args.self.now.cards) Drop c.args.name.now _ c.in_err-unit.ensures)
     c.from_residual.result c.from_residual.ensures.1
 
 pub returns-in_err-labels : goal.returns-in_err-labels

@@ -9,7 +9,7 @@ use Rattle.named.proofs.NamedBook.rank.Goals as goal
 pub returns-in_err-unit : goal.returns-in_err-unit
 unfolding asked
 returns-in_err-unit g c =
-    name-refused g.S.Map.meaning g.S.Store.room c.args.self.now (said.Rank c.args.name.now c.args.rank) c.requires.agreed _ (one-refused (names_of c.args.self.now.cards) (λ u. Rank u c.args.rank) c.args.name.now _ c.in_err-unit.ensures)
+    name-refused g.S.Map.meaning g.S.Store.room c.args.self.now (said.Rank c.args.name.now c.args.rank) c.requires _ (one-refused (names_of c.args.self.now.cards) (λ u. Rank u c.args.rank) c.args.name.now _ c.in_err-unit.ensures)
     c.from_residual.result c.from_residual.ensures.1
 
 pub returns-in_err-labels : goal.returns-in_err-labels
