@@ -17,7 +17,9 @@ impl<'a> Rest<'a> {
 
     // What follows one space, or the place of another byte.
     fn after_space(self) -> Result<Rest<'a>, usize>
-        ensures { read_as seen result ≡ (if slice_index self.entry.bytes.now 0 == 32 then Ok (drop 1 self.entry.bytes.now, self.entry.place + 1) else Err self.entry.place) }
+        ensures { read_as seen result ≡ (if slice_index self.entry.bytes.now 0 == 32
+            then Ok (drop 1 self.entry.bytes.now, self.entry.place + 1)
+            else Err self.entry.place) }
     {
         let [b' ', bytes @ ..] = self.bytes else {
             return Err(self.place);
@@ -31,7 +33,9 @@ impl<'a> Rest<'a> {
     // The first n bytes, a field, and what follows them; no field is empty.
     fn cut(self, n: usize) -> Result<(&'a [u8], Rest<'a>), usize>
         requires { n ≤ length self.bytes.now }
-        ensures { read_as name_cut result ≡ (if n == 0 then Err self.entry.place else Ok (take n self.entry.bytes.now, drop n self.entry.bytes.now, self.entry.place + n)) }
+        ensures { read_as name_cut result ≡ (if n == 0
+            then Err self.entry.place
+            else Ok (take n self.entry.bytes.now, drop n self.entry.bytes.now, self.entry.place + n)) }
     {
         if n == 0 {
             return Err(self.place);

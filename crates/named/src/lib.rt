@@ -23,8 +23,7 @@ use placing::{digits, with_place};
 use plain::BookFault;
 use two_names::TwoNames;
 
-// Each call keeps the book and the cards in agreement and promises it; between the two writes of one call they differ, so it
-// is no invariant of the type.
+// A rule of the project: that the book and the cards agree is asked of and promised by every call, and not kept by the type.
 #[derive(Drop)]
 pub struct NamedBook<S: Store> {
     book: Book<S>,
