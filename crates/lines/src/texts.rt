@@ -22,7 +22,8 @@ pub fn split_line(text: &[u8]) -> (&[u8], &[u8])
     }
 }
 
-// The lines of a text, one after the other. Where nothing stands after the last line feed, there is no line.
+// The lines of a text, one after the other. Where nothing stands after the last line feed, there is no line, as `split` would
+// have one.
 #[derive(Drop)]
 pub struct Lines<'a> {
     pub text: &'a [u8],
