@@ -24,6 +24,7 @@ pub struct Refusal {
     pub place: u8,
 }
 
+// Written out, since a derived `From` does not say what it gives, and the calls promise which fault `?` hands on.
 impl From<NameFault> for LineFault {
     ghost from_gives = { λ e r. r ≡ Name e };
 

@@ -3,14 +3,12 @@
 
 ghost use Rattle.std.specs.Prelude.{◌≡◌, ◌≤◌, ◌++◌, length, drop};
 ghost use Rattle.answers.specs.Texts.{told_text, refusal_text, text as answer-text, Near};
-ghost use Rattle.answers.specs.Written.{so_far};
-ghost use Rattle.answers.specs.declared.Told.TheVariants.{Changed};
 
 mod fault;
-mod text;
 
+use arrayvec::ArrayString;
 pub use fault::{LineFault, Refusal};
-use text::Text;
+use itoa::Buffer;
 
 // What is told of a line that is obeyed.
 #[derive(Clone, Copy, PartialEq, Eq, Debug)]
@@ -21,59 +19,47 @@ pub enum Told {
     Heard(bool),
 }
 
-// The text of these bytes.
-fn short_text(bytes: &[u8]) -> Text
-    requires { length bytes.now ≤ 16 }
-    ensures text { so_far result ≡ bytes.now }
-    ensures len { result.len ≡ length bytes.now }
-{
-    let mut text = Text::empty();
-    text.push_all(bytes);
-    text
-}
-
-// The text of a change, with the number of labels that it altered.
-fn change_text(labels: u32) -> Text
-    ensures text { so_far result ≡ told_text (Changed labels) }
-    ensures short { result.len ≤ 16 }
-{
-    let mut text = short_text(b"ok ");
-    text.push_decimal(labels);
-    text.push(b'\n');
-    text
-}
-
+// Parts are pushed one after the other: `write!` may fail, as its contract has it, and no answer does.
 impl Told {
-    fn text(self) -> Text
-        ensures text { so_far result ≡ told_text self }
-        ensures short { result.len ≤ 16 }
+    fn text(self) -> ArrayString<16>
+        ensures { result.bytes ≡ told_text self }
     {
+        let mut text = ArrayString::new();
         match self {
-            Told::Changed(labels) => change_text(labels),
-            Told::Heard(true) => short_text(b"yes\n"),
-            Told::Heard(false) => short_text(b"no\n"),
+            Told::Changed(labels) => {
+                let mut digits = Buffer::new();
+                text.push_str("ok ");
+                text.push_str(digits.format(labels));
+                text.push_str("\n");
+            }
+            Told::Heard(true) => text.push_str("yes\n"),
+            Told::Heard(false) => text.push_str("no\n"),
         }
+        text
     }
 }
 
 impl Refusal {
-    fn text(self) -> Text
+    #[tactic(auto, using(crate::proofs::Short::two_digits, crate::proofs::Short::number_short, crate::proofs::Short::letter_ascii))]
+    fn text(self) -> ArrayString<16>
         requires { self.place ≤ 36 }
-        ensures text { so_far result ≡ refusal_text self }
-        ensures short { result.len ≤ 16 }
+        ensures { result.bytes ≡ refusal_text self }
     {
-        let mut text = short_text(b"refused ");
-        text.push_decimal(u32::from(self.fault.number()));
-        text.push(b' ');
-        text.push(self.fault.letter());
-        text.push(b' ');
-        text.push_decimal(u32::from(self.place));
-        text.push(b'\n');
+        let mut digits = Buffer::new();
+        let mut text = ArrayString::new();
+        text.push_str("refused ");
+        text.push_str(digits.format(self.fault.number()));
+        text.push_str(" ");
+        text.push(char::from(self.fault.letter()));
+        text.push_str(" ");
+        text.push_str(digits.format(self.place));
+        text.push_str("\n");
         text
     }
 }
 
 // Writes the text of an answer from the buffer's start, and tells its length. No text is longer than 16 bytes.
+#[tactic(auto, unfolding(crate::specs::Texts::text))]
 pub fn write_answer(answer: Result<Told, Refusal>, buffer: &mut [u8]) -> usize
     requires room { 16 ≤ length buffer.old }
     requires near { Near answer }
@@ -81,8 +67,11 @@ pub fn write_answer(answer: Result<Told, Refusal>, buffer: &mut [u8]) -> usize
     ensures short { result ≤ 16 }
     ensures buffer { buffer.new ≡ answer-text answer ++ drop (length (answer-text answer)) buffer.old }
 {
-    match answer {
-        Ok(told) => told.text().copy_to(buffer),
-        Err(refusal) => refusal.text().copy_to(buffer),
-    }
+    let text = match answer {
+        Ok(told) => told.text(),
+        Err(refusal) => refusal.text(),
+    };
+    let bytes = text.as_str().as_bytes();
+    buffer[..bytes.len()].copy_from_slice(bytes);
+    bytes.len()
 }

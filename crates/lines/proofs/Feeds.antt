@@ -1,34 +1,70 @@
--- A text cut at its first line feed, one byte after the other.
-use Rattle.std.proofs.Common.{◌≡◌, ℕ, ◌+◌, ◌-◌, ◌<◌, ◌≤◌, Bool, cond, List, [], ◌∷◌, ◌++◌, length, get_or, take, drop, sym, ap, ◌∙◌, arith}
-use native.Mathlib.Nat.{sub-zero}
-use Rattle.std.proofs.lemmas.List.{append_assoc, append-nil, at_drop_more, at_drop_all, take_more, take_all, take_rest, drop_all}
-use Rattle.std.proofs.lemmas.Bool.{eq-eqb, ne_eqb}
-use Rattle.lines.specs.Texts.{first_line, after_line}
+-- A text is cut at its first line feed, and so into lines: a text that is not empty is its first line and the lines after it.
+use Rattle.std.proofs.Common.{◌≡◌, ℕ, suc, ◌+◌, ◌<◌, Bool, true, false, not, cond, eqb, ltb, ◌⊎◌, List, [], ◌∷◌, ◌++◌, length, take, drop, Some, None, sym, refl, ap, ◌∙◌, inl, inr, arith}
+use Rattle.std.specs.List.{position, position_or_len}
+use Rattle.std.proofs.lemmas.List.{append_assoc, append-nil, length_push, take_all, drop_all}
+use Rattle.std.proofs.lemmas.Bool.{ne_eqb, ltb-false}
+use Rattle.lines.specs.Texts.{first_line, after_line, lines_from, lines_of}
 
--- up to the byte i no line has ended
-abbrev pub Open : List ℕ → ℕ → Type 0
-Open xs i = (first_line xs ≡ take i xs ++ first_line (drop i xs)) × (after_line xs ≡ after_line (drop i xs))
+-- how many bytes stand before the first line feed
+abbrev before : List ℕ → ℕ
+before xs = position_or_len (λ b. eqb b 10) xs
 
-module _ (xs : List ℕ) (i : ℕ) (h : i < length xs) (inv : Open xs i) where
-  pub ends-here : get_or xs i 0 ≡ 10 → (take (i - 0) xs ≡ first_line xs) × (take (length xs - (i + 1)) (drop (i + 1) xs) ≡ after_line xs)
-  ends-here e =
-      let t = eq-eqb (get_or xs i 0) 10 e in
-      let line = at_drop_more first_line xs i 0 h ∙ ap (λ (b : Bool). cond b [] (get_or xs i 0 ∷ first_line (drop (i + 1) xs))) t in
-      let rest = at_drop_more after_line xs i 0 h ∙ ap (λ (b : Bool). cond b (drop (i + 1) xs) (after_line (drop (i + 1) xs))) t in
-      (ap (λ (n : ℕ). take n xs) (sub-zero i) ∙ sym (inv.0 ∙ ap (λ (z : List ℕ). take i xs ++ z) line ∙ append-nil (take i xs)), take_rest xs (i + 1) ∙ sym (inv.1 ∙ rest))
+line-before : (xs : List ℕ) → take (before xs) xs ≡ first_line xs
+line-before [] = refl
+line-before (x ∷ xs) = go (eqb x 10) (line-before xs)
+  where
+    go : (b : Bool) → take (before xs) xs ≡ first_line xs → take (cond (not b) (1 + before xs) 0) (x ∷ xs) ≡ cond b [] (x ∷ first_line xs)
+    go true rest = refl
+    go false rest = let s : 1 + before xs ≡ suc (before xs) = omega arith in rw s (ap (λ (l : List ℕ). x ∷ l) rest)
 
-  pub goes_on : (get_or xs i 0 ≡ 10 → ⊥) → Open xs (i + 1)
-  goes_on n =
-      let t = ne_eqb (get_or xs i 0) 10 n in
-      let line = at_drop_more first_line xs i 0 h ∙ ap (λ (b : Bool). cond b [] (get_or xs i 0 ∷ first_line (drop (i + 1) xs))) t in
-      let rest = at_drop_more after_line xs i 0 h ∙ ap (λ (b : Bool). cond b (drop (i + 1) xs) (after_line (drop (i + 1) xs))) t in (
-        inv.0 ∙ ap (λ (z : List ℕ). take i xs ++ z) line ∙ sym (append_assoc (take i xs) (get_or xs i 0 ∷ []) (first_line (drop (i + 1) xs)))
-            ∙ ap (λ (z : List ℕ). z ++ first_line (drop (i + 1) xs)) (sym (take_more xs i 0 h)),
-        inv.1 ∙ rest,
-      )
+rest_after : (xs : List ℕ) → drop (suc (before xs)) xs ≡ after_line xs
+rest_after [] = refl
+rest_after (x ∷ xs) = go (eqb x 10) (rest_after xs)
+  where
+    go : (b : Bool) → drop (suc (before xs)) xs ≡ after_line xs → drop (cond (not b) (1 + before xs) 0) xs ≡ cond b xs (after_line xs)
+    go true rest = refl
+    go false rest = let s : 1 + before xs ≡ suc (before xs) = omega arith in rw s rest
 
-pub never_ends : (xs : List ℕ) (i : ℕ) → length xs ≤ i → Open xs i → (xs ≡ first_line xs) × (take (length xs - length xs) (drop (length xs) xs) ≡ after_line xs)
-never_ends xs i h inv = (
-  sym (inv.0 ∙ ap (λ (z : List ℕ). take i xs ++ z) (at_drop_all first_line xs i h) ∙ append-nil (take i xs) ∙ take_all i xs h),
-  take_rest xs (length xs) ∙ drop_all (length xs) xs (omega arith) ∙ sym (inv.1 ∙ at_drop_all after_line xs i h),
-)
+pub cut-at : (xs : List ℕ) (i : ℕ) → position (λ b. eqb b 10) xs ≡ Some i → (take i xs ≡ first_line xs) × (drop (i + 1) xs ≡ after_line xs)
+cut-at xs i e = go (ltb (before xs) (length xs)) e
+  where
+    go : (b : Bool) → cond b (Some (before xs)) None ≡ Some i → (take i xs ≡ first_line xs) × (drop (i + 1) xs ≡ after_line xs)
+    go true is =
+        let at : before xs ≡ i = cc in
+        let more : i + 1 ≡ suc (before xs) = omega (arith, at) in
+        (rw (← at) (line-before xs), rw more (rest_after xs))
+    go false is = absurd (cc)
+
+pub never_cut : (xs : List ℕ) → position (λ b. eqb b 10) xs ≡ None → (xs ≡ first_line xs) × ([] ≡ after_line xs)
+never_cut xs e = go (ltb (before xs) (length xs)) refl e
+  where
+    go : (b : Bool) → ltb (before xs) (length xs) ≡ b → cond b (Some (before xs)) None ≡ None → (xs ≡ first_line xs) × ([] ≡ after_line xs)
+    go true t is = absurd (cc)
+    go false t is =
+        let far = ltb-false (before xs) (length xs) t in
+        (sym (take_all (before xs) xs far) ∙ line-before xs, sym (drop_all (suc (before xs)) xs (omega arith)) ∙ rest_after xs)
+
+cut-from : (line bytes : List ℕ) → (0 < length line) ⊎ (0 < length bytes) → lines_from line bytes ≡ (line ++ first_line bytes) ∷ lines_of (after_line bytes)
+unfolding lines_from
+cut-from line [] (inl h) = ap (λ (b : Bool). cond b [] (line ∷ [])) (ne_eqb (length line) 0 (omega arith)) ∙ ap (λ (l : List ℕ). l ∷ []) (sym (append-nil line))
+cut-from line [] (inr h) = absurd (omega arith)
+cut-from line (b ∷ bytes) h = go (eqb b 10) (cut-from (line ++ b ∷ []) bytes (inl (let e = length_push line b in omega arith)))
+  where
+    go : (t : Bool) → lines_from (line ++ b ∷ []) bytes ≡ ((line ++ b ∷ []) ++ first_line bytes) ∷ lines_of (after_line bytes) →
+        cond t (line ∷ lines_from [] bytes) (lines_from (line ++ b ∷ []) bytes) ≡ (line ++ cond t [] (b ∷ first_line bytes)) ∷ lines_of (cond t bytes (after_line bytes))
+    go true rest = ap (λ (l : List ℕ). l ∷ lines_of bytes) (sym (append-nil line))
+    go false rest = rest ∙ ap (λ (l : List ℕ). l ∷ lines_of (after_line bytes)) (append_assoc line (b ∷ []) (first_line bytes))
+
+pub cut : (bytes : List ℕ) → 0 < length bytes → lines_of bytes ≡ first_line bytes ∷ lines_of (after_line bytes)
+cut bytes h = cut-from [] bytes (inr h)
+
+pub no_line : (bytes : List ℕ) → length bytes ≡ 0 → lines_of bytes ≡ []
+unfolding lines_from
+no_line [] h = refl
+no_line (b ∷ bytes) h = absurd (omega arith)
+
+pub next_line : (bytes line rest : List ℕ) → 0 < length bytes → line ≡ first_line bytes → rest ≡ after_line bytes → lines_of bytes ≡ line ∷ lines_of rest
+next_line bytes line rest some is after = cut bytes some ∙ sym (ap (λ (l : List ℕ). l ∷ lines_of rest) is ∙ ap (λ (l : List ℕ). first_line bytes ∷ lines_of l) after)
+
+pub fewer_lines : (bytes rest : List ℕ) → 0 < length bytes → rest ≡ after_line bytes → length (lines_of rest) < length (lines_of bytes)
+fewer_lines bytes rest some after = let e = ap length (next_line bytes (first_line bytes) rest some refl after) in omega (arith, e)

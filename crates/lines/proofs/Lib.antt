@@ -1,4 +1,4 @@
-pub mod Runs
-pub mod Cuts
-pub mod Letters
 pub mod Feeds
+pub mod Letters
+pub mod Near
+pub mod Runs

@@ -1,12 +1,9 @@
 -- What the answers of the parser stand for.
-use Rattle.std.specs.Prelude.{ℕ, List, Ok, Err, Result}
+use Rattle.std.specs.Prelude.{ℕ, Ok, Err, Result}
 use Rattle.grammar.specs.Grammar.{Said, Enrol, Drop, Pair, Unpair, Rank, Hear}
-use Rattle.grammar.specs.Reading.{Cut}
 use Rattle.lines.specs.declared.Line.{Line}
 use Rattle.lines.specs.declared.Line.TheVariants as line
 use Rattle.lines.specs.declared.Malformed.{Malformed}
-use Rattle.lines.specs.declared.Rest.{Rest}
-use Rattle.std.specs.Borrow.{Bor}
 
 -- What a line says.
 abbrev pub said : Line → Said
@@ -21,10 +18,3 @@ said (line.Hear source listener) = Hear source.now listener.now
 abbrev pub placed : {A B : Type 0} → (A → B) → Result A Malformed → Result B ℕ
 placed f (Ok x) = Ok (f x)
 placed f (Err e) = Err e.place
-
--- A field with what stands after it.
-abbrev pub number_cut : ℕ × Rest → Cut ℕ
-number_cut x = (x.0, x.1.bytes.now, x.1.place)
-
-abbrev pub name_cut : Bor (List ℕ) × Rest → Cut (List ℕ)
-name_cut x = (x.0.now, x.1.bytes.now, x.1.place)

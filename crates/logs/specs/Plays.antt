@@ -1,7 +1,8 @@
 -- What playing a log to a named book writes and leaves.
 use Rattle.std.specs.Prelude.{◌≡◌, ℕ, List, [], ◌∷◌, ◌++◌, Ok, Err, Result}
 use Rattle.plain_named.specs.Named.{Named}
-use Rattle.plain_named.specs.Logs.{lines_of, answers, after_all}
+use Rattle.lines.specs.Texts.{lines_of}
+use Rattle.plain_named.specs.Logs.{answers, after_all}
 
 -- The answers to all lines of the log were written after what was there, and the named book is the one that the lines leave.
 pub record Played (capacity : ℕ) (n : Named) (log before : List ℕ) (then : Named) (out : List ℕ) : Type 0 where

@@ -1,30 +1,15 @@
 // Whole logs: every line of a text is put to a named book, and the answers are written one after the other.
 #![tactic(auto)]
 
-ghost use Rattle.std.specs.Prelude.{◌≡◌, ◌≤◌, ◌++◌, length, take, is_ok, if◌then◌else◌, nat_lt};
+ghost use Rattle.std.specs.Prelude.{◌≡◌, ◌++◌, is_ok, if◌then◌else◌};
 ghost use Rattle.plain_named.specs.Replies.{answer, after};
 ghost use Rattle.named.specs.Views.{named_of, Agreed};
 ghost use Rattle.logs.specs.Plays.{Outcome};
 
-use lines::split_line;
+use lines::Lines;
 use maps::Store;
 use named::NamedBook;
 use std::alloc::AllocError;
-
-// Whether a line is left: where nothing stands after the last line feed, there is none.
-fn has_line(rest: &[u8]) -> bool
-    ensures { result ≡ nat_lt 0 (length rest.now) }
-{
-    rest.len() > 0
-}
-
-// Adds the first n bytes of the buffer.
-fn add_front(out: &mut Vec<u8>, buffer: &[u8; 16], n: usize) -> Result<(), AllocError>
-    requires { n ≤ 16 }
-    ensures { out.new.items ≡ (if is_ok result then out.old.items ++ take n buffer.now else out.old.items) }
-{
-    out.extend_from_slice(&buffer[0..n])
-}
 
 // Puts one line to the named book, and adds its answer to what is written.
 fn add_answer<S: Store>(
@@ -38,13 +23,12 @@ fn add_answer<S: Store>(
     ensures agreed { Agreed S.Map.meaning book.new }
 {
     let mut buffer = [0; 16];
-    let Ok(n) = book.line(line, &mut buffer) else {
-        unreachable()
-    };
-    add_front(out, &buffer, n)
+    let n = book.line(line, &mut buffer).unwrap();
+    out.extend_from_slice(&buffer[..n])
 }
 
 // Plays the log to the named book, and adds the answers to what is written. Only memory can be wanting.
+#[tactic(auto, using(crate::proofs::Playing::begun, crate::proofs::Playing::more, crate::proofs::Playing::ended))]
 pub fn play<S: Store>(
     book: &mut NamedBook<S>,
     log: &[u8],
@@ -54,11 +38,9 @@ pub fn play<S: Store>(
     ensures outcome { Outcome S.Store.room (named_of S.Map.meaning book.old) log.now out.old.items result (named_of S.Map.meaning book.new) out.new.items }
     ensures agreed { Agreed S.Map.meaning book.new }
 {
-    let mut rest = log;
-    while has_line(rest) {
-        let (line, after) = split_line(rest);
+    let lines = Lines { text: log };
+    for line in lines {
         add_answer(book, line, out)?;
-        rest = after;
     }
     Ok(())
 }

@@ -1,7 +1,7 @@
 // Plays a log: reads lines from standard input and writes one answer for each to standard output.
 #![tactic(auto)]
 
-use lines::{parse, split_line};
+use lines::{Lines, parse};
 use std::io;
 use std::io::{BufReader, BufWriter, Read, Write};
 
@@ -10,14 +10,12 @@ fn main(rt: HostRuntime) -> io::Result<()> {
     let mut input = BufReader::new(rt.alloc(), rt.stdin())?;
     let _ = input.read_to_end(&mut text)?;
     let mut out = BufWriter::new(rt.alloc(), rt.stdout())?;
-    let mut rest = text.as_slice();
-    while rest.len() > 0 {
-        let (line, after) = split_line(rest);
+    let lines = Lines { text: &text };
+    for line in lines {
         match parse(line) {
             Ok(_) => out.write_all(b"lawful\n")?,
             Err(fault) => writeln!(out, "{fault}")?,
         }
-        rest = after;
     }
     out.flush()
 }

@@ -8,21 +8,22 @@ ghost use Rattle.plain_named.specs.Replies.{line_reply, after};
 ghost use Rattle.answers.specs.declared.fault.Refusal.{Refusal as Refused};
 ghost use Rattle.grammar.specs.Grammar.{IsName, LawfulFields, fields, Enrol, Drop, Pair, Unpair, Rank, Hear};
 ghost use Rattle.names.specs.Cards.{names_of};
-ghost use Rattle.answers.specs.declared.Told.TheVariants.{Changed, Heard};
-ghost use Rattle.answers.specs.declared.fault.LineFault.{LineFault as Fault};
 ghost use Rattle.plain_named.specs.Named.{nobody};
-ghost use Rattle.book.specs.Views.{Whole};
-ghost use Rattle.named.specs.Views.{named_of, Agreed};
-ghost use Rattle.plain_named.specs.Calls.{Obeyed, Answered, ToldByChains, of_book, both_found};
+ghost use Rattle.named.specs.Views.{named_of, Agreed, CarriedOut};
+ghost use Rattle.plain_named.specs.Calls.{Answered, ToldByChains};
+
+mod two_names;
 
 use answers::{LineFault, Refusal, Told, write_answer};
 use book::Book;
 use lines::{Line, parse};
 use maps::Store;
-use names::{Cards, NameFault};
+use names::Cards;
 use placing::{digits, with_place};
 use plain::BookFault;
+use two_names::TwoNames;
 
+// A rule of the project: that the book and the cards agree is asked of and promised by every call, and not kept by the type.
 #[derive(Drop)]
 pub struct NamedBook<S: Store> {
     book: Book<S>,
@@ -34,30 +35,6 @@ fn is_short(buffer: &[u8]) -> bool
     ensures { result ≡ nat_lt (length buffer.now) 16 }
 {
     buffer.len() < 16
-}
-
-// What the book answers to a change, as the answer to a line.
-fn changed(answer: Result<u32, BookFault>) -> Result<Told, LineFault>
-    ensures { result ≡ of_book Changed answer }
-{
-    Ok(Told::Changed(answer?))
-}
-
-// What the book answers to a question, as the answer to a line.
-fn heard(answer: Result<bool, BookFault>) -> Result<Told, LineFault>
-    ensures { result ≡ of_book Heard answer }
-{
-    Ok(Told::Heard(answer?))
-}
-
-// The units of two names, the first of which begins at place 3 of its line.
-fn both(cards: &Cards, source: &[u8], listener: &[u8]) -> Result<(u8, u8), NameFault>
-    requires { length source.now ≤ 16 }
-    ensures { result ≡ both_found (names_of cards.now) source.now listener.now }
-{
-    let a = cards.number_of(source, 3)?;
-    let b = cards.number_of(listener, 4 + source.len() as u8)?;
-    Ok((a, b))
 }
 
 impl<S: Store> NamedBook<S> {
@@ -73,56 +50,49 @@ impl<S: Store> NamedBook<S> {
     }
 
     // Pairs the one to the other.
-    fn pair(&mut self, source: &[u8], listener: &[u8]) -> Result<Told, LineFault>
-        requires agreed { Agreed S.Map.meaning self.old }
-        requires short { length source.now ≤ 16 }
-        ensures obeyed { Obeyed S.Store.room (named_of S.Map.meaning self.old) (Pair source.now listener.now) result (named_of S.Map.meaning self.new) }
-        ensures whole { Whole S.Map.meaning self.new.book }
-        ensures kept { (cause : Fault) → result ≡ Err cause → self.new ≡ self.old }
+    fn pair(&mut self, names: TwoNames<'_>) -> Result<Told, LineFault>
+        requires { Agreed S.Map.meaning self.old }
+        ensures { CarriedOut S.Map.meaning S.Store.room self.old (Pair names.entry.source.now names.entry.listener.now) result self.new }
     {
-        let (a, b) = both(&self.cards, source, listener)?;
-        changed(self.book.pair(a, b))
+        let (a, b) = names.units(&self.cards)?;
+        let labels = self.book.pair(a, b)?;
+        Ok(Told::Changed(labels))
     }
 
     // Takes the pairing of the one to the other away.
-    fn unpair(&mut self, source: &[u8], listener: &[u8]) -> Result<Told, LineFault>
-        requires agreed { Agreed S.Map.meaning self.old }
-        requires short { length source.now ≤ 16 }
-        ensures obeyed { Obeyed S.Store.room (named_of S.Map.meaning self.old) (Unpair source.now listener.now) result (named_of S.Map.meaning self.new) }
-        ensures whole { Whole S.Map.meaning self.new.book }
-        ensures kept { (cause : Fault) → result ≡ Err cause → self.new ≡ self.old }
+    fn unpair(&mut self, names: TwoNames<'_>) -> Result<Told, LineFault>
+        requires { Agreed S.Map.meaning self.old }
+        ensures { CarriedOut S.Map.meaning S.Store.room self.old (Unpair names.entry.source.now names.entry.listener.now) result self.new }
     {
-        let (a, b) = both(&self.cards, source, listener)?;
-        changed(self.book.unpair(a, b))
+        let (a, b) = names.units(&self.cards)?;
+        let labels = self.book.unpair(a, b)?;
+        Ok(Told::Changed(labels))
     }
 
     // Whether the listener hears the source.
-    fn hear(&self, source: &[u8], listener: &[u8]) -> Result<Told, LineFault>
-        requires agreed { Agreed S.Map.meaning self.now }
-        requires short { length source.now ≤ 16 }
-        ensures { Obeyed S.Store.room (named_of S.Map.meaning self.now) (Hear source.now listener.now) result (named_of S.Map.meaning self.now) }
+    fn hear(&self, names: TwoNames<'_>) -> Result<Told, LineFault>
+        requires { Agreed S.Map.meaning self.now }
+        ensures { CarriedOut S.Map.meaning S.Store.room self.now (Hear names.entry.source.now names.entry.listener.now) result self.now }
     {
-        let (a, b) = both(&self.cards, source, listener)?;
-        heard(self.book.hear(a, b))
+        let (a, b) = names.units(&self.cards)?;
+        let hears = self.book.hear(a, b)?;
+        Ok(Told::Heard(hears))
     }
 
     // Moves the unit to the rank.
     fn rank(&mut self, name: &[u8], rank: u8) -> Result<Told, LineFault>
-        requires agreed { Agreed S.Map.meaning self.old }
-        ensures obeyed { Obeyed S.Store.room (named_of S.Map.meaning self.old) (Rank name.now rank) result (named_of S.Map.meaning self.new) }
-        ensures whole { Whole S.Map.meaning self.new.book }
-        ensures kept { (cause : Fault) → result ≡ Err cause → self.new ≡ self.old }
+        requires { Agreed S.Map.meaning self.old }
+        ensures { CarriedOut S.Map.meaning S.Store.room self.old (Rank name.now rank) result self.new }
     {
         let unit = self.cards.number_of(name, 3)?;
-        changed(self.book.rank(unit, rank))
+        let labels = self.book.rank(unit, rank)?;
+        Ok(Told::Changed(labels))
     }
 
     // Drops the unit, and makes its card blank.
     fn drop_unit(&mut self, name: &[u8]) -> Result<Told, LineFault>
-        requires agreed { Agreed S.Map.meaning self.old }
-        ensures obeyed { Obeyed S.Store.room (named_of S.Map.meaning self.old) (Drop name.now) result (named_of S.Map.meaning self.new) }
-        ensures whole { Whole S.Map.meaning self.new.book }
-        ensures kept { (cause : Fault) → result ≡ Err cause → self.new ≡ self.old }
+        requires { Agreed S.Map.meaning self.old }
+        ensures { CarriedOut S.Map.meaning S.Store.room self.old (Drop name.now) result self.new }
     {
         let unit = self.cards.number_of(name, 3)?;
         let labels = self.book.drop_unit(unit)?;
@@ -134,9 +104,7 @@ impl<S: Store> NamedBook<S> {
     fn enrol(&mut self, number: u8, name: &[u8], rank: u8) -> Result<Told, LineFault>
         requires agreed { Agreed S.Map.meaning self.old }
         requires lawful { IsName name.now }
-        ensures obeyed { Obeyed S.Store.room (named_of S.Map.meaning self.old) (Enrol number name.now rank) result (named_of S.Map.meaning self.new) }
-        ensures whole { Whole S.Map.meaning self.new.book }
-        ensures kept { (cause : Fault) → result ≡ Err cause → self.new ≡ self.old }
+        ensures { CarriedOut S.Map.meaning S.Store.room self.old (Enrol number name.now rank) result self.new }
     {
         self.cards.check_free(name, 4 + digits(number))?;
         let labels = self.book.enrol(number, rank, &[], &[])?;
@@ -148,17 +116,15 @@ impl<S: Store> NamedBook<S> {
     fn obey(&mut self, line: Line<'_>) -> Result<Told, LineFault>
         requires agreed { Agreed S.Map.meaning self.old }
         requires lawful { LawfulFields (fields (said line)) }
-        ensures obeyed { Obeyed S.Store.room (named_of S.Map.meaning self.old) (said line.entry) result (named_of S.Map.meaning self.new) }
-        ensures whole { Whole S.Map.meaning self.new.book }
-        ensures kept { (cause : Fault) → result ≡ Err cause → self.new ≡ self.old }
+        ensures { CarriedOut S.Map.meaning S.Store.room self.old (said line.entry) result self.new }
     {
         match line {
             Line::Enrol { number, name, rank } => self.enrol(number, name, rank),
             Line::Drop { name } => self.drop_unit(name),
-            Line::Pair { source, listener } => self.pair(source, listener),
-            Line::Unpair { source, listener } => self.unpair(source, listener),
+            Line::Pair { source, listener } => self.pair(TwoNames { source, listener }),
+            Line::Unpair { source, listener } => self.unpair(TwoNames { source, listener }),
             Line::Rank { name, rank } => self.rank(name, rank),
-            Line::Hear { source, listener } => self.hear(source, listener),
+            Line::Hear { source, listener } => self.hear(TwoNames { source, listener }),
         }
     }
 

@@ -10,14 +10,9 @@ pub fn full_log(heap: Global) -> Result<String, AllocError> {
     for u in 1..256u16 {
         log.push_str(format!(in heap; "e {u} u{u} {u}\n")?.as_str())?;
     }
-    let mut pairings = 0u16;
-    for a in 1..256u16 {
-        for b in a + 1..256u16 {
-            if pairings < 8000 {
-                pairings += 1;
-                log.push_str(format!(in heap; "p u{a} u{b}\n")?.as_str())?;
-            }
-        }
+    let pairs = (1..256u16).flat_map(|a| (a + 1..256u16).map(move |b| (a, b)));
+    for (a, b) in pairs.take(8000) {
+        log.push_str(format!(in heap; "p u{a} u{b}\n")?.as_str())?;
     }
     Ok(log)
 }

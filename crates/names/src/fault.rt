@@ -12,7 +12,7 @@ pub enum NameFault {
 }
 
 impl NameFault {
-    // The number that is shown for the fault.
+    // The number that is shown for the fault. Each variant holds a place, so the number is no discriminant.
     pub fn number(self) -> u8
         ensures { result ≡ name_number self }
     {
@@ -34,8 +34,7 @@ impl NameFault {
         ensures { result ≡ name_place self }
     {
         match self {
-            NameFault::Unknown(place) => place,
-            NameFault::Taken(place) => place,
+            NameFault::Unknown(place) | NameFault::Taken(place) => place,
         }
     }
 }

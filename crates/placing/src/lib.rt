@@ -11,18 +11,16 @@ use answers::{LineFault, Refusal, Told};
 use lines::Line;
 use plain::BookFault;
 
-// How many digits the number has.
+// How many digits the number has. The library's logarithm has no answer at 0, so the arms are plainer.
 pub fn digits(n: u8) -> u8
     ensures is { result ≡ length (decimal n) }
     ensures few { result ≤ 3 }
 {
-    if n < 10 {
-        return 1;
+    match n {
+        0..=9 => 1,
+        10..=99 => 2,
+        _ => 3,
     }
-    if n < 100 {
-        return 2;
-    }
-    3
 }
 
 // How many bytes the first field has.
@@ -33,11 +31,10 @@ fn first_len(line: Line<'_>) -> u8
 {
     match line {
         Line::Enrol { number, .. } => digits(number),
-        Line::Drop { name } => name.len() as u8,
-        Line::Pair { source, .. } => source.len() as u8,
-        Line::Unpair { source, .. } => source.len() as u8,
-        Line::Rank { name, .. } => name.len() as u8,
-        Line::Hear { source, .. } => source.len() as u8,
+        Line::Drop { name } | Line::Rank { name, .. } => name.len() as u8,
+        Line::Pair { source, .. } | Line::Unpair { source, .. } | Line::Hear { source, .. } => {
+            source.len() as u8
+        }
     }
 }
 
@@ -59,26 +56,33 @@ fn book_place(line: Line<'_>, fault: BookFault) -> u8
     ensures { result ≡ place (said line.entry) (fault_field (said line.entry) fault) }
 {
     match fault {
-        BookFault::Zero => 3,
-        BookFault::Standing => 3,
+        BookFault::Zero | BookFault::Standing => 3,
         BookFault::RankOutside => rank_place(line),
         _ => 4 + first_len(line),
     }
 }
 
-// The answer to a line, with the place of a fault.
-pub fn with_place(line: Line<'_>, answer: Result<Told, LineFault>) -> Result<Told, Refusal>
+// The fault, with the place at which it is told.
+fn refusal(line: Line<'_>, fault: LineFault) -> Refusal
     requires { LawfulFields (fields (said line)) }
-    ensures { result ≡ placed (said line.entry) answer }
+    ensures { result ≡ record { fault = fault; place = fault_place (said line.entry) fault } }
 {
-    let fault = match answer {
-        Ok(told) => return Ok(told),
-        Err(fault) => fault,
-    };
     let place = match fault {
         LineFault::Form(cause) => cause.place,
         LineFault::Name(cause) => cause.place(),
         LineFault::Book(cause) => book_place(line, cause),
     };
-    Err(Refusal { fault, place })
+    Refusal { fault, place }
+}
+
+// The answer to a line, with the place of a fault. Arms, since of a `map_err` whose closure captures the line the proof did
+// not close.
+pub fn with_place(line: Line<'_>, answer: Result<Told, LineFault>) -> Result<Told, Refusal>
+    requires { LawfulFields (fields (said line)) }
+    ensures { result ≡ placed (said line.entry) answer }
+{
+    match answer {
+        Ok(told) => Ok(told),
+        Err(fault) => Err(refusal(line, fault)),
+    }
 }

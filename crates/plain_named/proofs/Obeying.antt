@@ -75,24 +75,6 @@ told_is : {A : Type 0} (tell : A → Told) (o : Option BookFault) (x : A) → of
 told_is tell None x = refl
 told_is tell (Some cause) x = refl
 
-left_is : (o : Option BookFault) (p q : Plain) (names : Names) → record { book = plain.unless o p q; names = names } ≡ unless o (record { book = p; names = names }) (record { book = q; names = names })
-left_is None p q names = refl
-left_is (Some cause) p q names = refl
-
--- a request that leaves the names
-pub book-changed : (capacity : ℕ) (n : Named) (s : Said) (a : Asked) → asked n.names s ≡ Ok a → (answer : Result ℕ BookFault) (after : Plain) → Applied capacity n.book (request_of a) answer after →
-    tells n.book a ≡ Changed (alters n.book (granted n.book (request_of a))) → names_after a n.names ≡ n.names → (r : Result Told LineFault) → r ≡ of_book Changed answer → Obeyed capacity n s r (record { book = after; names = n.names })
-unfolding reply_to left_by
-book-changed capacity n s a e answer after applied tell same r is =
-    let v = verdict capacity n.book (request_of a) in
-    record {
-      told = is ∙ ap (of_book Changed) applied.told ∙ (told_is Changed v (alters n.book (granted n.book (request_of a))) ∙ (ap (replied v) (sym tell) ∙ sym (ap (reply_to capacity n) e)));
-      left =
-          ap (λ (p : Plain). record { book = p; names = n.names }) applied.left ∙
-          (left_is v n.book (granted n.book (request_of a)) n.names ∙
-          (ap (λ (names : Names). unless v n (record { book = granted n.book (request_of a); names = names })) (sym same) ∙ sym (ap (left_by capacity n) e)));
-    }
-
 -- a question
 pub book-asked : (capacity : ℕ) (n : Named) (s : Said) (a : Asked) → asked n.names s ≡ Ok a → (answer : Result Bool BookFault) (b : Bool) → answer ≡ answered (verdict capacity n.book (request_of a)) b →
     tells n.book a ≡ Heard b → granted n.book (request_of a) ≡ n.book → names_after a n.names ≡ n.names → (r : Result Told LineFault) → r ≡ of_book Heard answer → Obeyed capacity n s r n
@@ -142,11 +124,6 @@ card-written capacity n s a e labels after names applied tell written =
           (ap (λ (x : Names). record { book = granted n.book (request_of a); names = x }) written ∙
           sym (ap (left_by capacity n) e ∙ ap (λ o. unless o n (record { book = granted n.book (request_of a); names = names_after a n.names })) g.0));
     }
-
--- a refusal of the book is what the line is refused with
-pub from-book : {A X : Type 0} (tell : A → Told) (answer : Result A BookFault) (cause : LineFault) → of_book tell answer ≡ Err cause → ((own : BookFault) → answer ≡ Err own → X) → X
-from-book tell (Ok x) cause e kept = let z : ◌≡◌ {A = ℕ} 0 1 = cc in absurd (omega arith)
-from-book tell (Err own) cause e kept = kept own refl
 
 pub not-refused : {X A E : Type 0} (told : A) (cause : E) → Ok told ≡ Err cause → X
 not-refused told cause e = let z : ◌≡◌ {A = ℕ} 0 1 = cc in absurd (omega arith)

@@ -1,11 +1,11 @@
 -- Every field of a lawful line begins at place 36 or before, and so does what is malformed.
-use Rattle.std.proofs.Common.{◌≡◌, ℕ, zero, suc, ◌<◌, ◌≤◌, List, [], ◌∷◌, ◌++◌, length, get_or, Some, None, Ok, Err, decimal, Option, Result, refl, ap, ◌∙◌, subst, arith}
+use Rattle.std.proofs.Common.{◌≡◌, ℕ, zero, suc, ◌<◌, ◌≤◌, List, [], ◌∷◌, ◌++◌, length, get_or, Some, None, Ok, Err, Option, Result, refl, ap, ◌∙◌, subst, arith}
 use Rattle.std.proofs.lemmas.List.{length-append, append_assoc}
-use Rattle.std.proofs.lemmas.Fmt.{length-decimal-le}
 use Rattle.grammar.specs.Grammar.{Said, Field, Number, Name as NameField, text, fields, letter, spaced, written, LawfulField, LawfulFields, Right, Says, MalformedAt}
 use Rattle.grammar.specs.Grammar as said
 use Rattle.grammar.specs.Reading.{read}
 use Rattle.grammar.proofs.Theorem.{reading-right}
+use Rattle.lines.proofs.Near.{digits-few, malformed-near}
 use Rattle.names.specs.declared.fault.NameFault.{NameFault}
 use Rattle.names.specs.declared.fault.NameFault.TheVariants as fault
 use Rattle.names.specs.Faults.{name_place}
@@ -19,14 +19,6 @@ use Rattle.plain_named.specs.Named.{Named}
 use Rattle.plain_named.specs.Theorems.{FieldAt}
 use Rattle.plain_named.specs.Lines.{Asked, asked, next, begins, place, request_of}
 use Rattle.plain_named.specs.Replies.{tells, replied, reply, reply_to, fault_field, placed, reply_to_read, line_reply}
-
--- a number has at most three digits, and a name at most 16 bytes
-pub digits-few : (n : ℕ) → n ≤ 255 → length (decimal n) ≤ 3
-digits-few n h = length-decimal-le 3 n (omega arith) (omega arith) (omega arith)
-
-field-short : (f : Field) → LawfulField f → length (text f) ≤ 16
-field-short (Number n) l = let d = digits-few n l in omega arith
-field-short (NameField name) l = l.short
 
 -- the first three fields
 pub first-near : (s : Said) → place s 0 ≤ 36
@@ -98,38 +90,6 @@ reply-near capacity n s l = go (asked n.names s) refl
     go : (r : Result Asked NameFault) → asked n.names s ≡ r → Near (placed s (reply_to capacity n r))
     go (Ok a) e = at (verdict capacity n.book (request_of a)) (tells n.book a)
     go (Err cause) e = name-near n.names s l cause e
-
--- a lawful line has at most 35 bytes
-two-short : (s t : List ℕ) → length s ≤ 16 → length t ≤ 16 → suc (length (32 ∷ (s ++ 32 ∷ (t ++ [])))) ≤ 35
-two-short s t a b = let x = length-append s (32 ∷ (t ++ [])) in let y = length-append t [] in omega arith
-
-written-short : (s : Said) → LawfulFields (fields s) → length (written s) ≤ 35
-written-short (said.Enrol number name rank) l =
-    let d = digits-few number l.0 in
-    let e = l.1.0.short in
-    let f = digits-few rank l.1.1.0 in
-    let x = length-append (decimal number) (32 ∷ (name ++ 32 ∷ (decimal rank ++ []))) in
-    let y = length-append name (32 ∷ (decimal rank ++ [])) in
-    let z = length-append (decimal rank) [] in
-    omega arith
-written-short (said.Drop name) l = let e = l.0.short in let x = length-append name [] in omega arith
-written-short (said.Pair s t) l = two-short s t l.0.short l.1.0.short
-written-short (said.Unpair s t) l = two-short s t l.0.short l.1.0.short
-written-short (said.Rank name rank) l =
-    let e = l.0.short in
-    let f = digits-few rank l.1.0 in
-    let y = length-append name (32 ∷ (decimal rank ++ [])) in
-    let z = length-append (decimal rank) [] in
-    omega arith
-written-short (said.Hear s t) l = two-short s t l.0.short l.1.0.short
-
-malformed-near : (line : List ℕ) (at : ℕ) → MalformedAt line at → at ≤ 36
-malformed-near line at m =
-    let says = m.begins.1.1 in
-    let w = written-short m.begins.1.0 says.lawful in
-    let e = ap length says.is ∙ length-append m.before m.begins.0 in
-    let h = m.here in
-    omega arith
 
 pub line-near : (capacity : ℕ) (n : Named) (line : List ℕ) → Near (line_reply capacity n line)
 line-near capacity n line = go (read line) (reading-right.right line)

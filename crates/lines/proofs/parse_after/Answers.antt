@@ -1,51 +1,40 @@
-use Rattle.std.proofs.Common.{ℕ, sym, ap, ◌∙◌, arith}
-use Rattle.std.proofs.lemmas.Result.{err_from_is_err_and}
+use Rattle.std.proofs.Common.{◌≡◌, ℕ, sym, ap, ◌∙◌, arith, rules}
 use Rattle.grammar.specs.Grammar.{Pair, Unpair, Hear}
 use Rattle.grammar.specs.Reading.{read_by}
+use Rattle.lines.specs.Lines.{said}
+use Rattle.lines.specs.Rests.{read_as}
 use Rattle.lines.proofs.Letters.{other-letter}
 use Rattle.lines.proofs.parse_after.Goals as goal
 
-pub returns-in-e : goal.returns-in-e
+pub returns-in-101 : goal.returns-in-101
 unfolding read_by
-returns-in-e c = c.parse_enrol.ensures ∙ ap (λ (l : ℕ). read_by l c.args.bytes.now) (sym c.in-e.is)
+returns-in-101 c = c.parse_enrol.ensures ∙ ap (λ (l : ℕ). read_by l c.args.bytes.now) (sym c.in-101.is)
 
-pub returns-in-d : goal.returns-in-d
+pub returns-in-100 : goal.returns-in-100
 unfolding read_by
-returns-in-d c = c.parse_drop.ensures ∙ ap (λ (l : ℕ). read_by l c.args.bytes.now) (sym c.in-d.is)
+returns-in-100 c = c.parse_drop.ensures ∙ ap (λ (l : ℕ). read_by l c.args.bytes.now) (sym c.in-100.is)
 
-pub returns-in-r : goal.returns-in-r
+pub returns-in-114 : goal.returns-in-114
 unfolding read_by
-returns-in-r c = c.parse_rank.ensures ∙ ap (λ (l : ℕ). read_by l c.args.bytes.now) (sym c.in-r.is)
+returns-in-114 c = c.parse_rank.ensures ∙ ap (λ (l : ℕ). read_by l c.args.bytes.now) (sym c.in-114.is)
 
-pub returns-in_err-source-in-p : goal.returns-in_err-source-in-p
+pub returns-in-112 : goal.returns-in-112
 unfolding read_by
-returns-in_err-source-in-p c =
-    let p = err_from_is_err_and c.from_residual.result c.from_residual.ensures.1 in
-    rw (p.1, p.2) (c.in_err-source-in-p.ensures Pair ∙ ap (λ (l : ℕ). read_by l c.args.bytes.now) (sym c.in-p.is))
+returns-in-112 c =
+    let made : read_as said c.map.result ≡ read_as (λ x. Pair x.0.now x.1.now) c.two_names.result = search rules in
+    made ∙ c.two_names.ensures Pair ∙ ap (λ (l : ℕ). read_by l c.args.bytes.now) (sym c.in-112.is)
 
-pub returns-in_ok-source-in-p : goal.returns-in_ok-source-in-p
+pub returns-in-97 : goal.returns-in-97
 unfolding read_by
-returns-in_ok-source-in-p c = c.in_ok-source-in-p.ensures Pair ∙ ap (λ (l : ℕ). read_by l c.args.bytes.now) (sym c.in-p.is)
+returns-in-97 c =
+    let made : read_as said c.map-in-97.result ≡ read_as (λ x. Unpair x.0.now x.1.now) c.two_names-in-97.result = search rules in
+    made ∙ c.two_names-in-97.ensures Unpair ∙ ap (λ (l : ℕ). read_by l c.args.bytes.now) (sym c.in-97.is)
 
-pub returns-in_err-source-in-a : goal.returns-in_err-source-in-a
+pub returns-in-104 : goal.returns-in-104
 unfolding read_by
-returns-in_err-source-in-a c =
-    let p = err_from_is_err_and c.from_residual-in_err-source-in-a.result c.from_residual-in_err-source-in-a.ensures.1 in
-    rw (p.1, p.2) (c.in_err-source-in-a.ensures Unpair ∙ ap (λ (l : ℕ). read_by l c.args.bytes.now) (sym c.in-a.is))
-
-pub returns-in_ok-source-in-a : goal.returns-in_ok-source-in-a
-unfolding read_by
-returns-in_ok-source-in-a c = c.in_ok-source-in-a.ensures Unpair ∙ ap (λ (l : ℕ). read_by l c.args.bytes.now) (sym c.in-a.is)
-
-pub returns-in_err-source-in-h : goal.returns-in_err-source-in-h
-unfolding read_by
-returns-in_err-source-in-h c =
-    let p = err_from_is_err_and c.from_residual-in_err-source-in-h.result c.from_residual-in_err-source-in-h.ensures.1 in
-    rw (p.1, p.2) (c.in_err-source-in-h.ensures Hear ∙ ap (λ (l : ℕ). read_by l c.args.bytes.now) (sym c.in-h.is))
-
-pub returns-in_ok-source-in-h : goal.returns-in_ok-source-in-h
-unfolding read_by
-returns-in_ok-source-in-h c = c.in_ok-source-in-h.ensures Hear ∙ ap (λ (l : ℕ). read_by l c.args.bytes.now) (sym c.in-h.is)
+returns-in-104 c =
+    let made : read_as said c.map-in-104.result ≡ read_as (λ x. Hear x.0.now x.1.now) c.two_names-in-104.result = search rules in
+    made ∙ c.two_names-in-104.ensures Hear ∙ ap (λ (l : ℕ). read_by l c.args.bytes.now) (sym c.in-104.is)
 
 pub returns-in_default : goal.returns-in_default
 returns-in_default c = other-letter c.args.letter c.args.bytes.now (λ e. omega arith) (λ e. omega arith) (λ e. omega arith) (λ e. omega arith) (λ e. omega arith) (λ e. omega arith)

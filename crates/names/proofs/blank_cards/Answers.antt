@@ -1,12 +1,14 @@
-use Rattle.std.proofs.Common.{◌≡◌, ℕ, zero, suc, get_or, replicate, None, refl}
-use Rattle.names.specs.declared.Card.{Card}
-use Rattle.names.specs.Cards.{name_on, past}
+use Rattle.std.proofs.Common.{◌≡◌, ℕ, ◌<◌, ◌≤◌, ◌⊎◌, inl, inr, None, List, Option, length, get_or, arith, rules}
+use Rattle.std.proofs.lemmas.Bool.{cases_lt}
+use Rattle.std.proofs.lemmas.List.{get_or_past}
 use Rattle.names.proofs.blank_cards.Goals as goal
 
-all-blank : (card : Card) (n u : ℕ) → name_on card ≡ None → name_on (get_or (replicate n card) u past) ≡ None
-all-blank card zero u e = refl
-all-blank card (suc n) zero e = e
-all-blank card (suc n) (suc u) e = all-blank card n u e
+all-none : {X : Type 0} (xs : List (Option X)) (u : ℕ) → (u < length xs → get_or xs u None ≡ None) → get_or xs u None ≡ None
+all-none xs u each = go (cases_lt u (length xs))
+  where
+    go : (u < length xs) ⊎ (length xs ≤ u) → get_or xs u None ≡ None
+    go (inl l) = each l
+    go (inr past) = get_or_past xs u None past
 
 pub returns : goal.returns
-returns c u = all-blank c.blank_card.result 256 u c.blank_card.ensures
+returns c u = all-none c.from_fn.result u (λ l. let made = (c.from_fn.ensures.items.at u None (omega (arith, c.from_fn.ensures.items.long))).2 in search rules)

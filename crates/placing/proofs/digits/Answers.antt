@@ -9,16 +9,15 @@ one n h = ap length (decimal_digit n h)
 more : (n : ℕ) → 10 ≤ n → n < 256 → length (decimal n) ≡ length (decimal (n / 10)) + 1
 more n h l = ap length (decimal_step n h (omega arith)) ∙ length_push (decimal (n / 10)) (48 + n % 10)
 
-pub returns-then-n-lt10 : goal.returns-then-n-lt10
-returns-then-n-lt10 c = record { is = sym (one c.args.n (omega arith)); few = omega arith }
+pub returns-in-0-to-9-clause-is : goal.returns-in-0-to-9-clause-is
+returns-in-0-to-9-clause-is c = sym (one c.args.n (omega arith))
 
-pub returns-then-n-lt100 : goal.returns-then-n-lt100
-returns-then-n-lt100 c =
-    let a = more c.args.n (omega arith) (omega arith) in let b = one (c.args.n / 10) (omega arith) in record { is = omega arith; few = omega arith }
+pub returns-in-10-to-99-clause-is : goal.returns-in-10-to-99-clause-is
+returns-in-10-to-99-clause-is c = let a = more c.args.n (omega arith) (omega arith) in let b = one (c.args.n / 10) (omega arith) in omega arith
 
-pub returns : goal.returns
-returns c =
+pub returns-in_default-clause-is : goal.returns-in_default-clause-is
+returns-in_default-clause-is c =
     let a = more c.args.n (omega arith) (omega arith) in
     let b = more (c.args.n / 10) (omega arith) (omega arith) in
     let d = one (c.args.n / 10 / 10) (omega arith) in
-    record { is = omega arith; few = omega arith }
+    omega arith

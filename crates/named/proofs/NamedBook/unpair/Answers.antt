@@ -1,30 +1,27 @@
-use Rattle.std.proofs.Common.{◌≡◌, sym, refl, ap, ◌∙◌}
+use Rattle.std.proofs.Common.{refl}
 use Rattle.grammar.specs.Grammar as said
-use Rattle.answers.specs.declared.Told.TheVariants.{Changed}
+use Rattle.names.specs.Cards.{names_of}
 use Rattle.plain_named.specs.Lines.{Unpair, asked}
-use Rattle.plain_named.proofs.Obeying.{two-asked, two-refused, name-exit, book-changed, from-book}
-use Rattle.named.specs.Views.{named_of}
+use Rattle.plain_named.proofs.Obeying.{two-asked, two-refused}
+use Rattle.named.proofs.Carrying.{name-refused, change-refused, change-granted}
 use Rattle.named.proofs.NamedBook.unpair.Goals as goal
 
 pub returns-in_err-a : goal.returns-in_err-a
 unfolding asked
 returns-in_err-a g c =
-    let n = named_of g.S.Map.meaning c.args.self.now in
-    record {
-      obeyed = name-exit g.S.Store.room n (said.Unpair c.args.source.now c.args.listener.now) c.from_residual.result _ (two-refused n.names Unpair c.args.source.now c.args.listener.now _ c.in_err-a.ensures) c.from_residual.ensures.1;
-      whole = c.requires.agreed.0;
-      kept = λ cause e. refl;
-    }
+    name-refused g.S.Map.meaning g.S.Store.room c.args.self.now (said.Unpair c.args.names.source.now c.args.names.listener.now) c.requires _
+    (two-refused (names_of c.args.self.now.cards) Unpair c.args.names.source.now c.args.names.listener.now _ c.in_err-a.ensures) c.from_residual.result c.from_residual.ensures.1
+
+pub returns-in_err-labels : goal.returns-in_err-labels
+unfolding asked
+returns-in_err-labels g c =
+    change-refused g.S.Map.meaning g.S.Store.room c.args.self.now (said.Unpair c.args.names.source.now c.args.names.listener.now) (Unpair c.in_ok-a.a c.in_ok-a.b)
+    (two-asked (names_of c.args.self.now.cards) Unpair c.args.names.source.now c.args.names.listener.now c.in_ok-a.a c.in_ok-a.b c.in_ok-a.ensures) _ _ c.in_err-labels.ensures.applied
+    c.in_err-labels.ensures.whole (c.in_err-labels.ensures.kept _ refl) c.from_residual-in_err-labels.result c.from_residual-in_err-labels.ensures.1
 
 pub returns : goal.returns
 unfolding asked
 returns g c =
-    let n = named_of g.S.Map.meaning c.args.self.now in
-    let s = said.Unpair c.args.source.now c.args.listener.now in
-    let a = Unpair c.in_ok-a.a c.in_ok-a.b in
-    let asks : asked n.names s ≡ _ = two-asked n.names Unpair c.args.source.now c.args.listener.now c.in_ok-a.a c.in_ok-a.b c.in_ok-a.ensures in
-    record {
-      obeyed = book-changed g.S.Store.room n s a asks c.unpair.result _ c.unpair.ensures.applied refl refl _ c.changed.ensures;
-      whole = c.unpair.ensures.whole;
-      kept = λ cause e. from-book Changed c.unpair.result cause (sym c.changed.ensures ∙ e) (λ own h. ap (λ b. record { book = b; cards = c.args.self.now.cards }) (c.unpair.ensures.kept own h));
-    }
+    change-granted g.S.Map.meaning g.S.Store.room c.args.self.now (said.Unpair c.args.names.source.now c.args.names.listener.now) (Unpair c.in_ok-a.a c.in_ok-a.b)
+    (two-asked (names_of c.args.self.now.cards) Unpair c.args.names.source.now c.args.names.listener.now c.in_ok-a.a c.in_ok-a.b c.in_ok-a.ensures) _ c.args.self.now.cards c.in_ok-labels.labels
+    c.in_ok-labels.ensures.applied c.in_ok-labels.ensures.whole refl refl
