@@ -1,6 +1,6 @@
 -- An order with a unit put in or taken out: it stays lawful, and each number has the rank that it has there.
 use Rattle.std.proofs.Common.{◌≡◌, ℕ, zero, suc, ◌+◌, ◌-◌, ◌<◌, ◌≤◌, true, false, not, ◌&&◌, cond, eqb, leb, ◌⊎◌, ◌↔◌, List, [], ◌∷◌, ◌++◌, length, get_or, take, drop, replicate, Option, Some, None, sym, refl, ap, ◌∙◌, subst, inl, inr, ⊎_elim, arith}
-use Rattle.std.proofs.lemmas.List.{length-take-le, get_or-take, take_more}
+use Rattle.std.proofs.lemmas.List.{length-take-le, get_or-take}
 use Rattle.std.specs.List.{remove}
 use Rattle.std.proofs.lemmas.Bool.{and_from, le-leb, not_from_false, cases_Bool, cases_eq, cond-true, cond-false, eq-eqb, ne_eqb}
 use Rattle.theory.specs.Maps.{listed}
@@ -126,9 +126,6 @@ pub nones : (n u : ℕ) → get_or {A = Option ℕ} (replicate n None) u None �
 nones zero u = refl
 nones (suc n) zero = refl
 nones (suc n) (suc u) = nones n u
-
-pub grown : (units order : List ℕ) (i : ℕ) → i < length units → order ≡ take i units → inserted (length order) (get_or units i 0) order ≡ take (i + 1) units
-grown units order i h e = inserted-last (get_or units i 0) order ∙ ap (λ l. l ++ get_or units i 0 ∷ []) e ∙ sym (take_more units i 0 h)
 
 -- each unit of an order is new to the front before it
 pub front-off : (units : List ℕ) (i : ℕ) → i < length units → Once units → On (get_or units i 0) (take i units) → ⊥

@@ -1,5 +1,5 @@
 -- The order of a rank table, what it keeps, and what is asked of it.
-use Rattle.std.specs.Prelude.{◌≡◌, ℕ, ◌-◌, ◌≤◌, cond, ◌&&◌, List, length, Some, None, Option, nat_le, slice_index, slice_index_or}
+use Rattle.std.specs.Prelude.{◌≡◌, ℕ, ◌-◌, ◌≤◌, Bool, cond, not, ◌&&◌, List, length, Some, None, Option, nat_le, slice_index, slice_index_or}
 use Rattle.theory.specs.Maps.{listed}
 use Rattle.theory.specs.Chains.{On}
 use Rattle.theory.specs.Ranks.{rank_in, Once}
@@ -14,6 +14,10 @@ pub record Lawful (order : List ℕ) : Type 0 where
   pub low : (u : ℕ) → On u order → 1 ≤ u
   pub high : (u : ℕ) → On u order → u ≤ 255
   pub once : Once order
+
+-- u is a unit's number that is not in the order.
+abbrev pub is_new : List ℕ → ℕ → Bool
+is_new order u = nat_le 1 u && not (listed u order)
 
 -- The rank of u, where u is in the order.
 abbrev pub rank_found : List ℕ → ℕ → Option ℕ

@@ -1,10 +1,10 @@
 // The rank table: which unit stands at each rank, and which rank each unit has. The unit at rank 1 is the highest.
 #![tactic(auto)]
 
-ghost use Rattle.std.specs.Prelude.{⊤, ◌≡◌, ℕ, ◌<◌, ◌≤◌, true, false, not, ◌&&◌, List, [], length, None, MatchOption, nat_le, slice_index_or};
+ghost use Rattle.std.specs.Prelude.{⊤, ◌≡◌, ℕ, ◌<◌, ◌≤◌, true, false, if◌then◌else◌, [], ◌∷◌, ◌++◌, length, Some, None, MatchOption, slice_index_or};
 ghost use Rattle.theory.specs.Maps.{listed};
 ghost use Rattle.theory.specs.Ranks.{Once, inserted, removed, moved};
-ghost use Rattle.ranks.specs.Orders.{Lawful, rank_found, unit_found};
+ghost use Rattle.ranks.specs.Orders.{Lawful, is_new, rank_found, unit_found};
 
 use arrayvec::ArrayVec;
 use std::alloc::AllocError;
@@ -129,11 +129,16 @@ impl Ranks {
         self.insert(k, u);
     }
 
-    // Whether `u` is a unit's number that is not in the order.
-    fn is_new(&self, u: u8) -> bool
-        ensures { result ≡ (nat_le 1 u && not (listed u self.now)) }
+    // Puts `u` in below all others, where it is a unit's number that is not in the order; else the table stays as it was.
+    pub fn push(&mut self, u: u8) -> Option<()>
+        ensures told { result ≡ (if is_new self.old u then Some tt else None) }
+        ensures left { self.new ≡ (if is_new self.old u then self.old ++ u ∷ [] else self.old) }
     {
-        u >= 1 && !self.holds(u)
+        if u == 0 || self.holds(u) {
+            return None;
+        }
+        self.insert(self.len(), u);
+        Some(())
     }
 
     // The table of a whole order, the highest unit first; none where a number is 0 or stands twice.
@@ -142,10 +147,7 @@ impl Ranks {
     {
         let mut ranks = Ranks::empty();
         for u in units {
-            if !ranks.is_new(*u) {
-                return None;
-            }
-            ranks.insert(ranks.len(), *u);
+            ranks.push(*u)?;
         }
         Some(ranks)
     }
