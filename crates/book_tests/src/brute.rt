@@ -1,64 +1,48 @@
 // A book of the units 1 to 15 that keeps their ranks and their pairings, and computes all else anew at each call.
+ghost use Rattle.std.specs.Prelude.{◌≤◌};
+
 use crate::changes::{Change, List};
 use crate::relation::Relation;
 use plain::BookFault;
 
-// A unit that does not stand has the rank 0.
+// A unit that does not stand has no rank.
 #[derive(Clone, Copy)]
 pub struct BruteBook {
-    ranks: [u8; 16],
+    ranks: [Option<u8>; 16],
     pairs: Relation,
 }
 
-// How often u stands in the list.
-fn occurrences(list: &[u8], u: u8) -> usize {
-    let mut count: usize = 0;
-    for x in list {
-        if *x == u {
-            count = count.saturating_add(1);
-        }
-    }
-    count
-}
-
+// Whether a unit stands twice in the list.
 fn has_double(list: &[u8]) -> bool {
-    for u in list {
-        if occurrences(list, *u) > 1 {
-            return true;
-        }
-    }
-    false
+    list.iter()
+        .any(|u| list.iter().filter(|x| *x == u).count() > 1)
 }
 
 impl BruteBook {
     pub fn new() -> BruteBook {
         BruteBook {
-            ranks: [0; 16],
+            ranks: [None; 16],
             pairs: Relation::none(),
         }
     }
 
-    fn rank_of(&self, u: u8) -> u8 {
+    fn rank_of(&self, u: u8) -> Option<u8> {
         self.ranks[usize::from(u % 16)]
     }
 
-    fn set_rank(&mut self, u: u8, rank: u8) {
+    fn set_rank(&mut self, u: u8, rank: Option<u8>) {
         self.ranks[usize::from(u % 16)] = rank;
     }
 
     fn stands(&self, u: u8) -> bool {
-        u < 16 && self.rank_of(u) != 0
+        u < 16 && self.rank_of(u).is_some()
     }
 
     // How many units stand.
-    fn count(&self) -> u8 {
-        let mut count: u8 = 0;
-        for u in 0..16u8 {
-            if self.stands(u) {
-                count = count.saturating_add(1);
-            }
-        }
-        count
+    fn count(&self) -> usize
+        ensures { result ≤ 16 }
+    {
+        self.ranks.iter().filter(|rank| rank.is_some()).count()
     }
 
     // Whom each unit is heard by: a is related to b where there is a chain of pairings from a to b.
@@ -70,24 +54,14 @@ impl BruteBook {
 
     // Whether a unit that is higher than u stands on a chain from u to v.
     fn passes_higher(&self, heard: &Relation, u: u8, v: u8) -> bool {
-        for w in 0..16u8 {
-            if heard.has(u, w) && heard.has(w, v) && self.rank_of(w) < self.rank_of(u) {
-                return true;
-            }
-        }
-        false
+        (0..16u8).any(|w| heard.has(u, w) && heard.has(w, v) && self.rank_of(w) < self.rank_of(u))
     }
 
     // u is related to v where u is an in-label of v, by the chains of the relation.
     fn labels(&self, heard: &Relation) -> Relation {
-        let mut labels = Relation::none();
-        for i in 0..256u16 {
-            let u = (i / 16) as u8;
-            let v = (i % 16) as u8;
-            let above = heard.has(u, v) && self.rank_of(u) < self.rank_of(v);
-            labels.set(u, v, above && !self.passes_higher(heard, u, v));
-        }
-        labels
+        Relation::of(|u, v| {
+            heard.has(u, v) && self.rank_of(u) < self.rank_of(v) && !self.passes_higher(heard, u, v)
+        })
     }
 
     fn in_labels(&self) -> Relation {
@@ -110,45 +84,33 @@ impl BruteBook {
 
     // How many labels stand in the one book and not in the other.
     fn labels_changed(&self, other: &BruteBook) -> u32 {
-        self.in_labels().differences(&other.in_labels())
-            + self.out_labels().differences(&other.out_labels())
+        let ins = self.in_labels().differences(&other.in_labels());
+        let outs = self.out_labels().differences(&other.out_labels());
+        (ins + outs) as u32
     }
 
-    // The unit of the rank, or 0.
-    fn unit_at(&self, rank: u8) -> u8 {
-        for u in 0..16u8 {
-            if self.rank_of(u) == rank {
-                return u;
-            }
-        }
-        0
+    fn unit_at(&self, rank: u8) -> Option<u8> {
+        (0..16u8).find(|u| self.rank_of(*u) == Some(rank))
     }
 
-    // Writes the units that are related to u, in the order of rank, as far as the buffer goes.
-    fn write(&self, members: &Relation, u: u8, buffer: &mut [u8]) -> usize {
-        let mut n: usize = 0;
-        for k in 1..16u8 {
-            let w = self.unit_at(k);
-            if members.has(w, u) {
-                if n < buffer.len() {
-                    buffer[n] = w;
-                }
-                n = n.saturating_add(1);
-            }
-        }
-        n
-    }
-
-    // Writes a list of u from the buffer's start, and tells its length.
+    // Writes a list of u from the buffer's start, in the order of rank, and tells its length.
     pub fn ask(&self, list: List, u: u8, buffer: &mut [u8]) -> Result<usize, BookFault> {
         if !self.stands(u) {
             return Err(BookFault::Unknown);
         }
         let members = self.members(list);
-        if self.write(&members, u, &mut [0; 16]) > buffer.len() {
+        let length = (0..16u8).filter(|w| members.has(*w, u)).count();
+        if length > buffer.len() {
             return Err(BookFault::ShortBuffer);
         }
-        Ok(self.write(&members, u, buffer))
+        let by_rank = (1..16u8).filter_map(|k| self.unit_at(k));
+        for (place, w) in buffer
+            .iter_mut()
+            .zip(by_rank.filter(|w| members.has(*w, u)))
+        {
+            *place = w;
+        }
+        Ok(length)
     }
 
     // Whether t hears s.
@@ -161,32 +123,15 @@ impl BruteBook {
     }
 
     fn any_unknown(&self, list: &[u8]) -> bool {
-        for u in list {
-            if !self.stands(*u) {
-                return true;
-            }
-        }
-        false
-    }
-
-    // Whether s hears one of the list.
-    fn hears_any(&self, s: u8, list: &[u8]) -> bool {
-        for t in list {
-            if self.hearing().has(*t, s) {
-                return true;
-            }
-        }
-        false
+        list.iter().any(|u| !self.stands(*u))
     }
 
     // Whether one of the sources hears one of the listeners.
     fn any_ring(&self, sources: &[u8], listeners: &[u8]) -> bool {
-        for s in sources {
-            if self.hears_any(*s, listeners) {
-                return true;
-            }
-        }
-        false
+        let heard = self.hearing();
+        sources
+            .iter()
+            .any(|s| listeners.iter().any(|t| heard.has(*t, *s)))
     }
 
     // The first cause for which a unit cannot have the partners.
@@ -216,7 +161,7 @@ impl BruteBook {
                 if self.stands(unit) {
                     return Err(BookFault::Standing);
                 }
-                if rank == 0 || rank > self.count().saturating_add(1) {
+                if rank == 0 || usize::from(rank) > self.count() + 1 {
                     return Err(BookFault::RankOutside);
                 }
                 self.check_partners(sources, listeners)
@@ -257,7 +202,7 @@ impl BruteBook {
 
     fn check_rank(&self, v: u8, k: u8) -> Result<(), BookFault> {
         self.check_known(v, v)?;
-        if k == 0 || k > self.count() {
+        if k == 0 || usize::from(k) > self.count() {
             return Err(BookFault::RankOutside);
         }
         Ok(())
@@ -265,24 +210,22 @@ impl BruteBook {
 
     // Gives the unit the rank; those from that rank on move down.
     fn rank_in(&mut self, v: u8, rank: u8) {
-        for u in 0..16u8 {
-            let old = self.rank_of(u);
-            if old != 0 && old >= rank {
-                self.set_rank(u, old.saturating_add(1));
-            }
+        for old in self.ranks.iter_mut() {
+            *old = old.map(|k| if k >= rank { k.saturating_add(1) } else { k });
         }
-        self.set_rank(v, rank);
+        self.set_rank(v, Some(rank));
     }
 
     // Takes the unit's rank away; those below it move up.
     fn rank_out(&mut self, v: u8) {
         let rank = self.rank_of(v);
-        self.set_rank(v, 0);
-        for u in 0..16u8 {
-            let old = self.rank_of(u);
-            if old > rank {
-                self.set_rank(u, old - 1);
-            }
+        self.set_rank(v, None);
+        for old in self.ranks.iter_mut() {
+            *old = old.map(|k| if Some(k) > rank {
+                k.saturating_sub(1)
+            } else {
+                k
+            });
         }
     }
 

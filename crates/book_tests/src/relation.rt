@@ -20,6 +20,17 @@ impl Relation {
         }
     }
 
+    // Relates a to b where the test passes.
+    pub fn of<F: Fn(u8, u8) -> bool>(test: F) -> Relation
+        requires { F.IsAlwaysCallable test }
+    {
+        let mut all = Relation::none();
+        for i in 0..=255u8 {
+            all.set(i / 16, i % 16, test(i / 16, i % 16));
+        }
+        all
+    }
+
     pub fn has(&self, a: u8, b: u8) -> bool {
         self.cells[cell(a, b)]
     }
@@ -37,16 +48,11 @@ impl Relation {
     }
 
     // How many pairs stand in the one relation and not in the other.
-    pub fn differences(&self, other: &Relation) -> u32
+    pub fn differences(&self, other: &Relation) -> usize
         ensures { result ≤ 256 }
     {
-        let mut count = 0;
-        for i in 0..256usize {
-            if self.cells[i] != other.cells[i] {
-                count += 1;
-            }
-        }
-        count
+        let pairs = self.cells.iter().zip(other.cells.iter());
+        pairs.filter(|(one, another)| one != another).count()
     }
 
     // Relates a to all that k is related to, where a is related to k.
@@ -77,12 +83,6 @@ impl Relation {
 
     // Relates a to b where b was related to a.
     pub fn turn(&self) -> Relation {
-        let mut turned = Relation::none();
-        for i in 0..=255u16 {
-            let a = (i / 16) as u8;
-            let b = (i % 16) as u8;
-            turned.set(a, b, self.has(b, a));
-        }
-        turned
+        Relation::of(|a, b| self.has(b, a))
     }
 }

@@ -54,23 +54,24 @@ fn tells<S: Store>(rt: &impl Abort, book: &Book<S>, lists: &[Told<'_>]) -> Resul
 fn length<S: Store>(book: &Book<S>, list: List, u: u8) -> usize
     requires { Whole S.Map.meaning book.now }
 {
-    match ask(book, list, u, &mut [0; 255]) {
-        Ok(n) => n,
-        Err(_) => 0,
-    }
+    ask(book, list, u, &mut [0; 255]).unwrap_or(0)
+}
+
+// How many labels of u stand.
+fn labels_of<S: Store>(book: &Book<S>, u: u8) -> usize
+    requires { Whole S.Map.meaning book.now }
+{
+    length(book, List::InLabels, u).saturating_add(length(book, List::OutLabels, u))
 }
 
 // How many labels stand in all.
 fn labels<S: Store>(book: &Book<S>) -> usize
     requires { Whole S.Map.meaning book.now }
 {
-    let mut total: usize = 0;
-    for u in 0..255u8 {
-        total = total
-            .saturating_add(length(book, List::InLabels, u + 1))
-            .saturating_add(length(book, List::OutLabels, u + 1));
-    }
-    total
+    (1..=255u8).fold(
+        0,
+        |total: usize, u| total.saturating_add(labels_of(book, u)),
+    )
 }
 
 // Drops every unit.
@@ -78,8 +79,8 @@ fn clear<S: Store>(book: &mut Book<S>)
     requires { Whole S.Map.meaning book.old }
     ensures { Whole S.Map.meaning book.new }
 {
-    for u in 0..255u8 {
-        let _ = book.drop_unit(u + 1);
+    for u in 1..=255u8 {
+        let _ = book.drop_unit(u);
     }
 }
 

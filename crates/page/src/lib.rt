@@ -16,12 +16,14 @@ use ranks::Ranks;
 use units::UnitSet;
 
 mod contents;
+mod formed;
 mod reading;
 mod rings;
 mod writing;
 
 pub use contents::Contents;
-use reading::{is_formed, read_rows, read_units};
+use formed::Formed;
+use reading::{read_rows, read_units};
 use rings::{has_ring, pairs_itself};
 pub use writing::write;
 
@@ -58,14 +60,8 @@ fn ringless(page: &[u8], ranks: Ranks, rows: [UnitSet; 256]) -> Result<Contents,
 pub fn read(page: &[u8]) -> Result<Contents, BookFault>
     ensures { Reads page.now result }
 {
-    if !is_formed(page) {
-        return Err(BookFault::UnlawfulPage);
-    }
-    let Some(ranks) = read_units(page) else {
-        return Err(BookFault::UnlawfulPage);
-    };
-    let Some(rows) = read_rows(page, &ranks) else {
-        return Err(BookFault::UnlawfulPage);
-    };
+    let formed = Formed::of(page).ok_or(BookFault::UnlawfulPage)?;
+    let ranks = read_units(&formed).ok_or(BookFault::UnlawfulPage)?;
+    let rows = read_rows(&formed, &ranks).ok_or(BookFault::UnlawfulPage)?;
     ringless(page, ranks, rows)
 }

@@ -14,12 +14,7 @@ use walks::heard_from;
 pub(crate) fn pairs_itself(rows: &[UnitSet; 256], order: &[u8]) -> bool
     ensures { result ≡ some (λ a. in_row rows.now a a) order.now }
 {
-    for a in order {
-        if rows[*a as usize].contains(*a) {
-            return true;
-        }
-    }
-    false
+    order.iter().any(|a| rows[usize::from(*a)].contains(*a))
 }
 
 // Whether a unit that hears b is paired to it.

@@ -21,7 +21,7 @@ fn write_record(page: &mut [u8], at: usize, number: u8, index: u16)
     page[at + 2] = (index / 256) as u8;
 }
 
-// The index of the record that comes next, and 0 where none is left.
+// The index of the record that comes next; the format has 0 where none is left.
 fn index_of(at: u16, left: u16) -> u16
     ensures { result ≡ (if nat_eq left 0 then 0 else at) }
 {
@@ -36,9 +36,9 @@ pub(crate) fn write_units<M: Map>(page: &mut [u8], order: &[u8], map: &M)
 {
     map.sound();
     let mut at = 1;
-    for i in 0..order.len() {
-        let count = map.listeners(order[i]).len();
-        write_record(page, 4 + 3 * i, order[i], index_of(at, count));
+    for (i, u) in order.iter().enumerate() {
+        let count = map.listeners(*u).len();
+        write_record(page, 4 + 3 * i, *u, index_of(at, count));
         at += count;
     }
 }
@@ -60,7 +60,7 @@ fn write_chain(page: &mut [u8], from: usize, at: u16, listeners: &UnitSet)
     }
 }
 
-// The number of the record after this one, and 0 where it is the last.
+// The number of the record after this one; the format has 0 where it is the last.
 fn following(number: u16, next: Option<u8>) -> u16
     requires { number < 65535 }
     ensures { result ≡ following_index number next }

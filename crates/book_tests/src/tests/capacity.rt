@@ -13,8 +13,8 @@ use std::test::Fail;
 // The numbers from 1 to 126.
 fn numbers() -> [u8; 126] {
     let mut all = [0; 126];
-    for i in 0..126u8 {
-        all[usize::from(i)] = i + 1;
+    for (number, i) in all.iter_mut().zip(1..=126u8) {
+        *number = i;
     }
     all
 }

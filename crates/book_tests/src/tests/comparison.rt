@@ -11,6 +11,13 @@ use maps::Store;
 use std::process::Abort;
 use std::test::Fail;
 
+const LISTS: [List; 4] = [
+    List::InLabels,
+    List::OutLabels,
+    List::InHolders,
+    List::OutHolders,
+];
+
 // A number of the units 1 to 8, or now and then 0.
 fn some_unit(random: &mut Random) -> u8 {
     (random.below(33) + 3) / 4
@@ -87,20 +94,24 @@ fn compare_list<S: Store>(
     assert_eq!(rt; one, other);
 }
 
+// Compares all lists of u, in so many bytes and in as many as a list can have.
+fn compare_unit<S: Store>(rt: &impl Abort, book: &Book<S>, brute: &BruteBook, u: u8, room: usize)
+    requires whole { Whole S.Map.meaning book.now }
+    requires fits { room ≤ 8 }
+{
+    for list in LISTS {
+        compare_list(rt, book, brute, list, u, room);
+        compare_list(rt, book, brute, list, u, 8);
+    }
+}
+
 // Compares all lists of every unit. The buffers' lengths vary with the units and from time to time.
 fn compare_lists<S: Store>(rt: &impl Abort, book: &Book<S>, brute: &BruteBook, time: u16)
     requires { Whole S.Map.meaning book.now }
 {
     for u in 0..10u8 {
         let room = usize::from((time % 9 + u16::from(u)) % 9);
-        compare_list(rt, book, brute, List::InLabels, u, room);
-        compare_list(rt, book, brute, List::OutLabels, u, room);
-        compare_list(rt, book, brute, List::InHolders, u, room);
-        compare_list(rt, book, brute, List::OutHolders, u, room);
-        compare_list(rt, book, brute, List::InLabels, u, 8);
-        compare_list(rt, book, brute, List::OutLabels, u, 8);
-        compare_list(rt, book, brute, List::InHolders, u, 8);
-        compare_list(rt, book, brute, List::OutHolders, u, 8);
+        compare_unit(rt, book, brute, u, room);
     }
 }
 

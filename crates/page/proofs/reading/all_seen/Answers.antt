@@ -1,18 +1,18 @@
-use Rattle.std.proofs.Common.{◌≡◌, ℕ, ◌+◌, ◌-◌, ◌≤◌, false, get_or, sym, ap, ◌∙◌, arith}
-use Rattle.plain.specs.Lists.{every, numbers}
+use Rattle.std.proofs.Common.{rules, ◌≡◌, ℕ, Bool, take, drop, ap, ◌∙◌, arith}
+use Rattle.std.proofs.lemmas.Iterator.{YieldsList-from_slice}
+use Rattle.std.proofs.lemmas.Iterator.Search.{all_from_yields_List}
+use Rattle.std.specs.Slice.Iter.{iter_rest}
 use Rattle.plain.specs.Pages.{record_count}
-use Rattle.page_laws.proofs.Numbers.{every-broken, every_more}
+use Rattle.page.proofs.Seen.{all_marked}
 use Rattle.page.proofs.reading.all_seen.Goals as goal
 
-pub returns-then-not-seen-r : goal.returns-then-not-seen-r
-returns-then-not-seen-r c =
-    every-broken (λ k. get_or c.args.seen.now k false) 1 (record_count c.args.page.now) c.loop-r.r c.loop-r.auto.r (omega (arith, c.word_at-r-end.ensures)) c.if-not-seen-r.true
-
-pub loop-r-preserved : goal.loop-r-preserved
-loop-r-preserved c =
-    let r = c.loop-r.r in
-    let low : 1 ≤ r = c.loop-r.auto.r in
-    let up : r ≡ (r - 1) + 1 = omega arith in
-    let same : (r + 1) - 1 ≡ (r - 1) + 1 = omega arith in
-    ap (λ (n : ℕ). every (λ k. get_or c.args.seen.now k false) (numbers 1 n)) same
-    ∙ every_more (λ k. get_or c.args.seen.now k false) (r - 1) c.loop-r.invariant (ap (λ (n : ℕ). get_or c.args.seen.now n false) (sym up) ∙ c.if-not-seen-r.false)
+pub returns : goal.returns
+returns c =
+    let seen = c.args.seen.now in
+    let n : ℕ = record_count c.args.page.now in
+    let most = c.records.ensures.most in
+    let is = c.records.ensures.is in
+    let long = c.told-seen in
+    let asked : iter_rest c.iter.result ≡ take n (drop 1 seen) = c.iter.ensures.rest ∙ ap (λ (k : ℕ). take k (drop 1 seen)) (omega arith) in
+    all_from_yields_List (λ (b : Bool). b) _ _ c.all.result c.all.ensures.ran (YieldsList-from_slice (take n (drop 1 seen)) asked) (λ x b q k. search rules)
+    ∙ all_marked seen 1 n (omega arith)

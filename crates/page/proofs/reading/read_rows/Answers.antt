@@ -1,4 +1,4 @@
-use Rattle.std.proofs.Common.{◌≡◌, ℕ, ◌≤◌, Bool, true, false, cond, eqb, List, sym, ap, ◌∙◌, subst, arith}
+use Rattle.std.proofs.Common.{◌≡◌, ℕ, ◌<◌, ◌≤◌, Bool, true, false, cond, eqb, List, sym, ap, ◌∙◌, subst, arith}
 use Rattle.units.specs.Has.{has, in_row}
 use Rattle.theory.specs.Chains.{On}
 use Rattle.theory.specs.Ranks.{Once}
@@ -15,30 +15,30 @@ pub loop-i-preserved : goal.loop-i-preserved
 loop-i-preserved c =
     let page = c.args.page.now in
     let i = c.loop-i.i in
-    let got = c.in-Some.ensures in
-    let once = subst Once c.requires.units c.lawful.ensures.once in (
+    let got = c.in_ok-row.ensures in
+    let once = subst Once c.requires c.lawful.ensures.once in (
       got.0,
-      λ a b. c.write_row.ensures a b ∙ ap (λ (u : ℕ). cond (eqb a u) (has c.in-Some.row b) (in_row c.loop-i.rows a b)) c.unit_of.ensures
-          ∙ both _ _ _ _ (got.1 b) (c.loop-i.invariant.1 a b) (eqb a (unit_in page i)) ∙ sym (paired-more page i c.loop-i-test.true once a b),
+      λ a b. c.write_row.ensures a b ∙ ap (λ (u : ℕ). cond (eqb a u) (has c.in_ok-row.row b) (in_row c.loop-i.rows a b)) c.unit.ensures
+          ∙ both _ _ _ _ (got.1 b) (c.loop-i.invariant.1 a b) (eqb a (unit_in page i)) ∙ sym (paired-more page i (subst (λ n. i < n) c.units-i-end.ensures.is c.loop-i-test.true) once a b),
     )
   where
     both : (x y z w : Bool) → x ≡ y → z ≡ w → (t : Bool) → cond t x z ≡ cond t y w
     both x y z w e f true = e
     both x y z w e f false = f
 
-last : (page : List ℕ) (seen : List Bool) (i : ℕ) → i ≤ unit_count page → unit_count page ≤ i → Followed page i seen → Followed page (unit_count page) seen
-last page seen i a b f = let e : i ≡ unit_count page = omega arith in subst (λ (n : ℕ). Followed page n seen) e f
+last : (page : List ℕ) (seen : List Bool) (i n : ℕ) → n ≡ unit_count page → i ≤ n → n ≤ i → Followed page i seen → Followed page (unit_count page) seen
+last page seen i n is a b f = let e : i ≡ unit_count page = omega arith in subst (λ (n : ℕ). Followed page n seen) e f
 
-pub returns-then-not-all_seen : goal.returns-then-not-all_seen
-returns-then-not-all_seen c =
-    not-reached c.args.page.now c.loop-i.seen (last c.args.page.now c.loop-i.seen c.loop-i.i c.loop-i.auto.i-end c.loop-i-test.false c.loop-i.invariant.0) (sym c.if-not-all_seen.ensures)
+pub returns-else-all_seen : goal.returns-else-all_seen
+returns-else-all_seen c =
+    not-reached c.args.page.now c.loop-i.seen (last c.args.page.now c.loop-i.seen c.loop-i.i c.units-i-end.result c.units-i-end.ensures.is c.loop-i.auto.i-end c.loop-i-test.false c.loop-i.invariant.0) (sym c.all_seen.ensures ∙ c.if-all_seen.false)
 
-pub returns : goal.returns
-returns c =
+pub returns-then-all_seen : goal.returns-then-all_seen
+returns-then-all_seen c =
     let page = c.args.page.now in
-    let low = λ (u : ℕ) (o : On u (page_units page)). c.lawful.ensures.low u (subst (On u) (sym c.requires.units) o) in
-    let here : c.loop-i.i ≡ unit_count page = let a = c.loop-i.auto.i-end in let b = c.loop-i-test.false in omega arith in (
-      followed-all page c.loop-i.seen c.requires.form low (subst Once c.requires.units c.lawful.ensures.once)
-          (last page c.loop-i.seen c.loop-i.i c.loop-i.auto.i-end c.loop-i-test.false c.loop-i.invariant.0) (sym c.if-not-all_seen.ensures),
+    let low = λ (u : ℕ) (o : On u (page_units page)). c.lawful.ensures.low u (subst (On u) (sym c.requires) o) in
+    let here : c.loop-i.i ≡ unit_count page = let a = c.loop-i.auto.i-end in let b = c.loop-i-test.false in let n = c.units-i-end.ensures.is in omega arith in (
+      followed-all page c.loop-i.seen c.units-i-end.ensures.form low (subst Once c.requires c.lawful.ensures.once)
+          (last page c.loop-i.seen c.loop-i.i c.units-i-end.result c.units-i-end.ensures.is c.loop-i.auto.i-end c.loop-i-test.false c.loop-i.invariant.0) (sym c.all_seen.ensures ∙ c.if-all_seen.true),
       λ a b. c.loop-i.invariant.1 a b ∙ ap (λ (n : ℕ). paired_by page n a b) here ∙ sym (paired-all page a b),
     )
