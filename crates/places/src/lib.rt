@@ -83,6 +83,21 @@ fn total_at<M: Map>(m: &M, ranks: &Ranks, v: u8, k: u8) -> u32
     total_of(&build(m, order), order)
 }
 
+// The place at rank k + 1.
+fn place_at<M: Map>(m: &M, ranks: &Ranks, v: u8, k: u8) -> Place
+    requires low { 1 ≤ v }
+    requires absent { listed v (order_of ranks.now) ≡ false }
+    requires within { k ≤ length (order_of ranks.now) }
+    requires fits { length (order_of ranks.now) < 255 }
+    requires orders { Orders (M.Map.meaning m.now) (inserted k v (order_of ranks.now)) }
+    ensures { told_of result ≡ (k + 1, trial (M.Map.meaning m.now) v (order_of ranks.now) (k + 1)) }
+{
+    Place {
+        rank: k + 1,
+        total: total_at(m, ranks, v, k),
+    }
+}
+
 // The place with the smaller total, the first of equals.
 fn better(first: Place, second: Place) -> Place
     ensures { told_of result ≡ smaller (told_of first) (told_of second) }
@@ -103,16 +118,9 @@ fn best_of<M: Map>(m: &M, ranks: &Ranks, v: u8) -> Place
     ensures { told_of result ≡ best_from (trial (M.Map.meaning m.now) v (order_of ranks.now)) 1 (length (order_of ranks.now)) }
 {
     let n = ranks.len();
-    let mut best = Place {
-        rank: n + 1,
-        total: total_at(m, ranks, v, n),
-    };
+    let mut best = place_at(m, ranks, v, n);
     for k in (0..n).rev() {
-        let next = Place {
-            rank: k + 1,
-            total: total_at(m, ranks, v, k),
-        };
-        best = better(next, best);
+        best = better(place_at(m, ranks, v, k), best);
     }
     best
 }
