@@ -1,10 +1,17 @@
 -- A new unit tried at each rank of an order.
-use Rattle.std.specs.Prelude.{ℕ, ◌-◌, cond, T, ◌≢◌, List, nat_le}
+use Rattle.std.specs.Prelude.{◌≡◌, ℕ, ◌-◌, ◌<◌, ◌≤◌, false, cond, T, ◌≢◌, List, length, nat_le}
 use Rattle.theory.specs.Chains.{On}
-use Rattle.theory.specs.Maps.{Map}
-use Rattle.theory.specs.Ranks.{inserted}
+use Rattle.theory.specs.Maps.{Map, listed}
+use Rattle.theory.specs.Ranks.{inserted, Orders}
 use Rattle.theory.specs.Lists.{total}
 use Rattle.places.specs.declared.place.Place.{Place}
+
+-- v is a unit of the map that is new to the order, which finds a place for it at each rank.
+pub record Triable (m : Map) (v : ℕ) (order : List ℕ) : Type 0 where
+  pub low : 1 ≤ v
+  pub absent : listed v order ≡ false
+  pub fits : length order < 255
+  pub orders : (k : ℕ) → Orders m (inserted k v order)
 
 -- The total of labels of the map, in the order with v put in at the rank.
 abbrev pub trial : Map → ℕ → List ℕ → ℕ → ℕ

@@ -15,7 +15,7 @@ ghost use Rattle.plain.specs.Placing.{best_from};
 ghost use Rattle.ranks.specs.Orders.{order_of};
 ghost use Rattle.grid.specs.Meaning.{matrix_map};
 ghost use Rattle.partners.specs.Joins.{Gives, joined};
-ghost use Rattle.places.specs.Trials.{Addable, trial, told_of, smaller};
+ghost use Rattle.places.specs.Trials.{Addable, Triable, trial, told_of, smaller};
 
 use grid::Matrix;
 use labels::Labels;
@@ -70,10 +70,8 @@ fn enrolled_copy<M: Map>(m: &M, v: u8, partners: &Partners) -> Matrix
 
 // The total of labels of the map, in the order with v put in after its first k units.
 fn total_at<M: Map>(m: &M, ranks: &Ranks, v: u8, k: u8) -> u32
-    requires low { 1 ≤ v }
-    requires absent { listed v (order_of ranks.now) ≡ false }
+    requires new { Triable (M.Map.meaning m.now) v (order_of ranks.now) }
     requires within { k ≤ length (order_of ranks.now) }
-    requires orders { Orders (M.Map.meaning m.now) (inserted k v (order_of ranks.now)) }
     ensures { result ≡ total (M.Map.meaning m.now) (inserted k v (order_of ranks.now)) }
 {
     m.sound();
@@ -83,7 +81,19 @@ fn total_at<M: Map>(m: &M, ranks: &Ranks, v: u8, k: u8) -> u32
     total_of(&build(m, order), order)
 }
 
-// The place with the smaller total, the first of equals.
+// The place at rank k + 1.
+fn place_at<M: Map>(m: &M, ranks: &Ranks, v: u8, k: u8) -> Place
+    requires new { Triable (M.Map.meaning m.now) v (order_of ranks.now) }
+    requires within { k ≤ length (order_of ranks.now) }
+    ensures { told_of result ≡ (k + 1, trial (M.Map.meaning m.now) v (order_of ranks.now) (k + 1)) }
+{
+    Place {
+        rank: k + 1,
+        total: total_at(m, ranks, v, k),
+    }
+}
+
+// The place with the smaller total, the first of equals. The library's min_by_key over a pair is no plainer.
 fn better(first: Place, second: Place) -> Place
     ensures { told_of result ≡ smaller (told_of first) (told_of second) }
 {
@@ -96,23 +106,13 @@ fn better(first: Place, second: Place) -> Place
 
 // The best of all ranks for v, tried from the lowest up: the least total, and of equals the least rank.
 fn best_of<M: Map>(m: &M, ranks: &Ranks, v: u8) -> Place
-    requires low { 1 ≤ v }
-    requires absent { listed v (order_of ranks.now) ≡ false }
-    requires orders { (k : ℕ) → Orders (M.Map.meaning m.now) (inserted k v (order_of ranks.now)) }
-    requires fits { length (order_of ranks.now) < 255 }
+    requires { Triable (M.Map.meaning m.now) v (order_of ranks.now) }
     ensures { told_of result ≡ best_from (trial (M.Map.meaning m.now) v (order_of ranks.now)) 1 (length (order_of ranks.now)) }
 {
     let n = ranks.len();
-    let mut best = Place {
-        rank: n + 1,
-        total: total_at(m, ranks, v, n),
-    };
+    let mut best = place_at(m, ranks, v, n);
     for k in (0..n).rev() {
-        let next = Place {
-            rank: k + 1,
-            total: total_at(m, ranks, v, k),
-        };
-        best = better(next, best);
+        best = better(place_at(m, ranks, v, k), best);
     }
     best
 }

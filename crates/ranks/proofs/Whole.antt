@@ -10,7 +10,7 @@ use Rattle.theory.proofs.Distinct.{listed-from-off, on-from-listed, off-from-lis
 use Rattle.theory.proofs.Ranks.{rank-here, rank-next, removed-here, removed-next, removed-none, on-inserted, once-inserted, on-removed, once-removed, rank-inserted}
 use Rattle.theory.proofs.Tests.{passed}
 use Rattle.theory.proofs.Lists.{listed-on}
-use Rattle.ranks.specs.Orders.{Lawful, rank_found}
+use Rattle.ranks.specs.Orders.{Lawful, Ranking, rank_found}
 
 pub inserted-is : (k v : ℕ) (xs : List ℕ) → inserted k v xs ≡ take k xs ++ v ∷ drop k xs
 inserted-is zero v xs = refl
@@ -145,3 +145,15 @@ front-new units order i h e law =
     let u = get_or units i 0 in
     and_from (leb 1 u) (not (listed u order)) (le-leb 1 u (law.low u (on-at units i h)))
     (not_from_false (listed u order) (listed-from-off u order (λ o. front-off units i h law.once (subst (On u) e o))))
+
+-- the order and the ranks of a table are each other's inverse
+module _ (order : List ℕ) (place : List (Option ℕ)) (ranking : Ranking order place) where
+  pub numbered : (i : ℕ) → i < length order → get_or place (get_or order i 0) None ≡ Some (i + 1)
+  numbered i h =
+      let u = get_or order i 0 in
+      let here = listed-on u order in
+      let rank : rank_in order u ≡ i + 1 = omega (arith, rank-at order ranking.lawful.once i h) in
+      ranking.ranked u ∙ cond-true (listed u order) (Some (rank_in order u)) None (passed (listed u order) (here.1 (on-at order i h))) ∙ ap Some rank
+
+  pub absent : (u : ℕ) → (On u order → ⊥) → get_or place u None ≡ None
+  absent u far = ranking.ranked u ∙ cond-false (listed u order) (Some (rank_in order u)) None (listed-from-off u order far)

@@ -24,7 +24,7 @@ abbrev pub rank_found : List ℕ → ℕ → Option ℕ
 rank_found order u = cond (listed u order) (Some (rank_in order u)) None
 
 -- What a table keeps: its order is lawful, and each number has the rank that it has in the order.
-pub record Numbered (order : List ℕ) (place : List (Option ℕ)) : Type 0 where
+pub record Ranking (order : List ℕ) (place : List (Option ℕ)) : Type 0 where
   pub lawful : Lawful order
   pub ranked : (u : ℕ) → slice_index_or place u None ≡ rank_found order u
 

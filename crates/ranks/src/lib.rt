@@ -23,11 +23,11 @@ impl Model for Ranks {
 
     ghost Value = { List ℕ };
 
-    ghost use Rattle.ranks.specs.Orders.{Numbered};
+    ghost use Rattle.ranks.specs.Orders.{Ranking};
 
     ghost view = { λ r. r.order.items };
 
-    ghost invariant = { λ r. Numbered r.order.items r.place };
+    ghost invariant = { λ r. Ranking r.order.items r.place };
 }
 
 // The rank of each unit of an order.

@@ -2,11 +2,12 @@
 use Rattle.std.proofs.Common.{◌≡◌, ◌<◌, ℕ, true, ◌≢◌, get_or, sym, refl, ap, ◌∙◌, subst, arith}
 use Rattle.theory.specs.Maps.{with_pair}
 use Rattle.grid.specs.Meaning.{matrix_map}
+use Rattle.partners.specs.Joins.{joined}
 use Rattle.places.proofs.Adding.{adding-more, adding-all, adding-able}
 use Rattle.places.proofs.add_all.Goals as goal
 
 pub loop-u-init : goal.loop-u-init
-loop-u-init g c = let able = c.requires.able in ((able.0, able.1, able.2), λ k. refl, λ q told. refl)
+loop-u-init g c = let able = c.requires.able in ((able.0, able.1, able.2), λ k. refl, λ q told. refl {a = joined q c.args.units.now (matrix_map c.args.map.now)})
 
 pub add_pair-requires : goal.add_pair-requires
 add_pair-requires g c =

@@ -1,3 +1,4 @@
+-- The best of the ranks below is kept.
 use Rattle.std.proofs.Common.{◌≡◌, ◌+◌, ◌-◌}
 use Rattle.plain.specs.Placing.{best_from}
 use Rattle.ranks.specs.Orders.{order_of}

@@ -1,3 +1,4 @@
+-- The book with the unit enrolled is tried at each rank.
 use Rattle.grid.specs.Meaning.{matrix_map}
 use Rattle.ranks.specs.Orders.{order_of}
 use Rattle.places.specs.Trials.{told_of}

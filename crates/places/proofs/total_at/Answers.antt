@@ -7,9 +7,9 @@ use Rattle.places.proofs.total_at.Goals as goal
 pub total_of-requires : goal.total_of-requires
 total_of-requires g c =
     let copy : c.unwrap-trial.result ≡ c.args.ranks.now = search rules in
-    short (g.M.Map.meaning c.args.m.now) c.sound.ensures _ _ (c.as_slice-order.ensures ∙ c.insert.ensures ∙ ap (inserted c.args.k c.args.v) copy) c.requires.orders
+    short (g.M.Map.meaning c.args.m.now) c.sound.ensures _ _ (c.as_slice-order.ensures ∙ c.insert.ensures ∙ ap (inserted c.args.k c.args.v) copy) (c.requires.new.orders c.args.k)
 
 pub returns : goal.returns
 returns g c =
     let copy : c.unwrap-trial.result ≡ c.args.ranks.now = search rules in
-    tried (g.M.Map.meaning c.args.m.now) c.sound.ensures _ _ (c.as_slice-order.ensures ∙ c.insert.ensures ∙ ap (inserted c.args.k c.args.v) copy) c.requires.orders c.build.result c.build.ensures c.total_of.result c.total_of.ensures
+    tried (g.M.Map.meaning c.args.m.now) c.sound.ensures _ _ (c.as_slice-order.ensures ∙ c.insert.ensures ∙ ap (inserted c.args.k c.args.v) copy) (c.requires.new.orders c.args.k) c.build.result c.build.ensures c.total_of.result c.total_of.ensures

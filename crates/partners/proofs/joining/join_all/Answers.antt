@@ -3,13 +3,14 @@ use Rattle.std.proofs.Common.{◌≡◌, ◌<◌, ℕ, get_or, refl, ap, ◌∙�
 use Rattle.theory.specs.Maps.{with_pair}
 use Rattle.maps.proofs.Copies.{not-refused}
 use Rattle.maps.specs.Changes.{join_cause}
+use Rattle.partners.specs.Joins.{joined}
 use Rattle.partners.proofs.Joins.{join-granted, join_more, done_more, done-end}
 use Rattle.partners.proofs.joining.join_all.Goals as goal
 
 pub loop-u-init : goal.loop-u-init
 loop-u-init g c =
     let able = c.requires.able in
-    ((able.0, able.1, record { sound = c.sound.ensures; able = able.3; differing = able.2 }), λ p told. refl)
+    ((able.0, able.1, record { sound = c.sound.ensures; able = able.3; differing = able.2 }), λ p told. refl {a = joined p c.args.units.now (g.S.Map.meaning c.args.store.now)})
 
 pub returns-in_err-join : goal.returns-in_err-join
 returns-in_err-join g c =
