@@ -1,5 +1,6 @@
 -- Calls that were played, and one call more.
 use Rattle.std.proofs.Common.{◌≡◌, ℕ, List, [], ◌∷◌, ◌++◌, map, sym, refl, ap, ◌∙◌, subst, append_assoc, append-nil}
+use Rattle.std.proofs.lemmas.List.{map-append}
 use Rattle.plain.specs.Plain.{Plain, Lawful}
 use Rattle.plain.specs.Requests.{Request, run}
 use Rattle.histories.specs.Replies.{Reply, replies}
@@ -7,10 +8,6 @@ use Rattle.histories.specs.Alters.{LawfulAlong}
 use Rattle.histories.proofs.Runs.{run-append, replies-append, along-append}
 use Rattle.history.specs.Calls.{Answer, reply_of, Turned}
 use Rattle.history.specs.Played.{Played}
-
-pub map-append : {A B : Type 0} (f : A → B) (xs ys : List A) → map f (xs ++ ys) ≡ map f xs ++ map f ys
-map-append f [] ys = refl
-map-append f (x ∷ xs) ys = ap (λ zs. f x ∷ zs) (map-append f xs ys)
 
 pub played-none : (capacity : ℕ) (p : Plain) (before : List Answer) → Lawful p → Played capacity [] p p before before
 played-none capacity p before law = record { left = refl; answered = sym (append-nil (map reply_of before)); lawful = law }

@@ -4,25 +4,25 @@
 ghost use Rattle.std.specs.Prelude.{◌≡◌, ℕ, false};
 ghost use Rattle.units.specs.Has.{has, in_row};
 ghost use Rattle.theory.specs.Maps.{listed};
-ghost use Rattle.ranks.specs.Orders.{order_of};
 ghost use Rattle.plain.specs.Lists.{some};
-ghost use Rattle.plain.specs.Pages.{page_units, page_book};
+ghost use Rattle.plain.specs.Pages.{page_book};
 ghost use Rattle.page_laws.specs.Parts.{Parts};
 ghost use Rattle.page.specs.Reads.{Reads};
 
 use grid::Matrix;
 use plain::BookFault;
-use ranks::Ranks;
 use units::UnitSet;
 
 mod contents;
 mod formed;
+mod ranked;
 mod reading;
 mod rings;
 mod writing;
 
 pub use contents::Contents;
 use formed::Formed;
+use ranked::Ranked;
 use reading::{read_rows, read_units};
 use rings::{has_ring, pairs_itself};
 pub use writing::write;
@@ -39,12 +39,12 @@ fn set_of(order: &[u8]) -> UnitSet
 }
 
 // What a lawful page says, where it has no ring.
-fn ringless(page: &[u8], ranks: Ranks, rows: [UnitSet; 256]) -> Result<Contents, BookFault>
-    requires parts { Parts page.now }
-    requires units { order_of ranks ≡ page_units page.now }
-    requires rows { (a b : ℕ) → in_row rows a b ≡ (page_book page.now).pair a b }
-    ensures { Reads page.now result }
+fn ringless(ranked: Ranked<'_>, rows: [UnitSet; 256]) -> Result<Contents, BookFault>
+    requires parts { Parts ranked.page }
+    requires rows { (a b : ℕ) → in_row rows a b ≡ (page_book ranked.page).pair a b }
+    ensures { Reads ranked.entry.page result }
 {
+    let ranks = ranked.ranks;
     ranks.lawful();
     if pairs_itself(&rows, ranks.as_slice()) {
         return Err(BookFault::Ring);
@@ -61,7 +61,7 @@ pub fn read(page: &[u8]) -> Result<Contents, BookFault>
     ensures { Reads page.now result }
 {
     let formed = Formed::of(page).ok_or(BookFault::UnlawfulPage)?;
-    let ranks = read_units(&formed).ok_or(BookFault::UnlawfulPage)?;
-    let rows = read_rows(&formed, &ranks).ok_or(BookFault::UnlawfulPage)?;
-    ringless(page, ranks, rows)
+    let ranked = read_units(formed).ok_or(BookFault::UnlawfulPage)?;
+    let rows = read_rows(&ranked).ok_or(BookFault::UnlawfulPage)?;
+    ringless(ranked, rows)
 }

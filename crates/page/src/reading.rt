@@ -4,18 +4,19 @@ ghost use Rattle.units.specs.Has.{has, in_row};
 ghost use Rattle.theory.specs.Maps.{listed};
 ghost use Rattle.ranks.specs.Orders.{order_of};
 ghost use Rattle.plain.specs.Lists.{every, numbers, each};
-ghost use Rattle.plain.specs.Pages.{unit_count, record_count, listener_in, page_units, unit_chain, page_book};
+ghost use Rattle.plain.specs.Pages.{unit_count, record_count, listener_in, unit_chain, page_book};
 ghost use Rattle.page.specs.Indices.{index_of};
 ghost use Rattle.page_laws.specs.Fresh.{fresh_record};
 ghost use Rattle.page_laws.specs.Parts.{Parts, Followed};
 
 use crate::formed::Formed;
+use crate::ranked::Ranked;
 use ranks::Ranks;
 use units::{UnitSet, empty_rows};
 
-// The units in rank order; none where one is 0 or stands twice.
-pub(crate) fn read_units(page: &Formed<'_>) -> Option<Ranks>
-    ensures { MatchOption result (Parts page.now → ⊥) (λ t. order_of t ≡ page_units page.now) }
+// The page with its units in rank order; none where one is 0 or stands twice.
+pub(crate) fn read_units(page: Formed<'_>) -> Option<Ranked<'_>>
+    ensures { MatchOption result (Parts page.entry → ⊥) (λ t. t.page ≡ page.entry) }
 {
     let mut ranks = Ranks::empty();
     for i in 0..page.units() {
@@ -25,7 +26,7 @@ pub(crate) fn read_units(page: &Formed<'_>) -> Option<Ranks>
         }
         ranks.insert(ranks.len(), u);
     }
-    Some(ranks)
+    Some(Ranked { page, ranks })
 }
 
 // Whether an index that was read stands for one of so many records, or for none.
@@ -36,36 +37,34 @@ fn is_record(index: Option<usize>, records: usize) -> bool
 }
 
 // Whether the record may come next in a chain whose listeners so far are `row`.
-fn may_follow(
-    page: &Formed<'_>,
-    ranks: &Ranks,
-    seen: &[bool; 8001],
-    row: &UnitSet,
-    r: usize,
-) -> bool
+fn may_follow(ranked: &Ranked<'_>, seen: &[bool; 8001], row: &UnitSet, r: usize) -> bool
     requires low { 1 ≤ r }
-    requires high { r ≤ record_count page.now }
-    ensures { result ≡ fresh_record page.now (order_of ranks.now) seen.now (has row.now) r }
+    requires high { r ≤ record_count ranked.now.page }
+    ensures { result ≡ fresh_record ranked.now.page (order_of ranked.now.ranks) seen.now (has row.now) r }
 {
+    let page = &ranked.page;
     let records = page.records();
     let listener = page.listener(r);
-    !seen[r] && is_record(page.next(r), records) && ranks.holds(listener) && !row.contains(listener)
+    !seen[r]
+        && is_record(page.next(r), records)
+        && ranked.ranks.holds(listener)
+        && !row.contains(listener)
 }
 
 // Follows the chain of the unit record i, marks its records as seen, and gathers its listeners.
-fn follow(page: &Formed<'_>, ranks: &Ranks, i: usize, seen: &mut [bool; 8001]) -> Option<UnitSet>
-    requires within { i < unit_count page.now }
-    requires units { order_of ranks.now ≡ page_units page.now }
-    requires before { Followed page.now i seen.old }
-    ensures { MatchOption result (Parts page.now → ⊥) (λ row. Followed page.now (i + 1) seen.new × ((k : ℕ) → has row k ≡ listed k (each (listener_in page.now) (unit_chain page.now i)))) }
+fn follow(ranked: &Ranked<'_>, i: usize, seen: &mut [bool; 8001]) -> Option<UnitSet>
+    requires within { i < unit_count ranked.now.page }
+    requires before { Followed ranked.now.page i seen.old }
+    ensures { MatchOption result (Parts ranked.now.page → ⊥) (λ row. Followed ranked.now.page (i + 1) seen.new × ((k : ℕ) → has row k ≡ listed k (each (listener_in ranked.now.page) (unit_chain ranked.now.page i)))) }
 {
+    let page = &ranked.page;
     let mut row = UnitSet::empty();
     let mut next = page.first(i);
     if !is_record(next, page.records()) {
         return None;
     }
     while let Some(r) = next {
-        if !may_follow(page, ranks, seen, &row, r) {
+        if !may_follow(ranked, seen, &row, r) {
             return None;
         }
         seen[r] = true;
@@ -97,15 +96,15 @@ fn none_seen() -> [bool; 8001]
 }
 
 // The listeners of each unit, by the chains of the page; none where the page breaks a rule.
-pub(crate) fn read_rows(page: &Formed<'_>, ranks: &Ranks) -> Option<[UnitSet; 256]>
-    requires { order_of ranks.now ≡ page_units page.now }
-    ensures { MatchOption result (Parts page.now → ⊥) (λ rows. Parts page.now × ((a b : ℕ) → in_row rows a b ≡ (page_book page.now).pair a b)) }
+pub(crate) fn read_rows(ranked: &Ranked<'_>) -> Option<[UnitSet; 256]>
+    ensures { MatchOption result (Parts ranked.now.page → ⊥) (λ rows. Parts ranked.now.page × ((a b : ℕ) → in_row rows a b ≡ (page_book ranked.now.page).pair a b)) }
 {
-    ranks.lawful();
+    ranked.ranks.lawful();
+    let page = &ranked.page;
     let mut seen = none_seen();
     let mut rows = empty_rows();
     for i in 0..page.units() {
-        let row = follow(page, ranks, i, &mut seen)?;
+        let row = follow(ranked, i, &mut seen)?;
         write_row(&mut rows, page.unit(i), row);
     }
     if all_seen(page, &seen) {

@@ -29,12 +29,11 @@ pub(crate) fn has_ring<M: Map>(m: &M) -> bool
     ensures { Ringed result (M.Map.meaning m.now) }
 {
     m.sound();
-    let mut c = 0;
-    while let Some(b) = m.least_unit_above(c) {
+    let units = m.units();
+    for b in units.iter() {
         if closes_ring(m, b) {
             return true;
         }
-        c = b;
     }
     false
 }

@@ -1,6 +1,6 @@
 -- Following the chain of one unit: what is seen so far is the front of the chain, so what breaks a rule on the way breaks it for the page.
 use Rattle.std.proofs.Common.{◌≡◌, ℕ, zero, suc, ◌+◌, ◌-◌, ◌<◌, ◌≤◌, Bool, true, false, not, ◌||◌, eqb, leb, ◌≢◌, List, [], ◌∷◌, ◌++◌, length, get_or, set, sym, refl, ap, ◌∙◌, subst, inl, ⊎_elim, append_assoc, append-nil, arith, length-append}
-use Rattle.std.proofs.lemmas.List.{get_or-set_same, get_or-set_other}
+use Rattle.std.proofs.lemmas.List.{get_or-set_same, get_or-set_other, map-append}
 use Rattle.std.proofs.lemmas.Bool.{cases_eq, eq-eqb, ne_eqb, or_left, both_ways, and_cases, and_parts, not-false, not-true, not_from_true, leb-true, leb-false}
 use Rattle.theory.specs.Maps.{listed}
 use Rattle.theory.specs.Chains.{On}
@@ -13,7 +13,7 @@ use Rattle.plain.specs.Pages.{unit_count, record_count, first_of, listener_in, n
 use Rattle.page_laws.specs.Parts.{Right, Parts, Marked, Followed}
 use Rattle.page_laws.specs.Along.{Trace, Along}
 use Rattle.page_laws.specs.Fresh.{fresh_record}
-use Rattle.page_laws.proofs.Numbers.{numbers_more, each_append, on-append, once-append}
+use Rattle.page_laws.proofs.Numbers.{numbers_more, on-append, once-append}
 
 -- a list with one more at the end
 pub listed_more : (k : ℕ) (xs : List ℕ) (x : ℕ) → listed k (xs ++ x ∷ []) ≡ (eqb k x || listed k xs)
@@ -114,7 +114,7 @@ module _ (page : List ℕ) where
         let l = listener_in page r in
         let o = on-from-listed l (each (listener_in page) list) (sym (along.listeners l) ∙ e) in
         let a = ahead ne in
-        let all = ap (each (listener_in page)) a.1 ∙ each_append (listener_in page) list (r ∷ a.0) in
+        let all = ap (each (listener_in page)) a.1 ∙ map-append (listener_in page) list (r ∷ a.0) in
         ((once-append (each (listener_in page) list) (l ∷ each (listener_in page) a.0)).0 (subst Once all (p.lists i h))).2 l o (inl refl)
 
     pub along-more : (more : List Bool) (wider : ℕ → Bool) → r ≢ 0 → record_count page < length seen → get_or seen r false ≡ false → next_of page r ≤ record_count page →
@@ -139,7 +139,7 @@ module _ (page : List ℕ) where
         joined = sym (append_assoc (chains page (numbers 0 i)) list (r ∷ []))
 
         eached : each (listener_in page) (list ++ r ∷ []) ≡ each (listener_in page) list ++ listener_in page r ∷ []
-        eached = each_append (listener_in page) list (r ∷ [])
+        eached = map-append (listener_in page) list (r ∷ [])
 
         one : (k : ℕ) → k ≢ 0 → 1 ≤ k
         one zero n0 = absurd (n0 refl)

@@ -1,6 +1,6 @@
 -- The test of lawful pages and its facts: each part of the test is one fact.
-use Rattle.std.proofs.Common.{◌≡◌, ℕ, ◌+◌, ◌*◌, ◌≤◌, Bool, true, false, not, ◌&&◌, T, eqb, leb, List, length, get_or, refl, arith}
-use Rattle.std.proofs.lemmas.Bool.{leb-true, le-leb, and_parts}
+use Rattle.std.proofs.Common.{◌≡◌, ℕ, ◌≤◌, Bool, true, false, not, ◌&&◌, T, eqb, leb, List, refl, arith}
+use Rattle.std.proofs.lemmas.Bool.{leb-true, le-leb}
 use Rattle.theory.specs.Maps.{listed}
 use Rattle.theory.specs.Chains.{On}
 use Rattle.theory.proofs.Tests.{and-fst, and-snd, and_both, passes, passed, differ, differs}
@@ -75,9 +75,3 @@ unlawful page never = go (lawful_by_parts page) refl
     go : (b : Bool) → lawful_by_parts page ≡ b → lawful_by_parts page ≡ false
     go true e = absurd (never (parts page e))
     go false e = e
-
-pub form-most : (page : List ℕ) → has_form page ≡ true → record_count page ≤ 8000
-form-most page e =
-    let a = and_parts (leb 4 (length page)) _ e in
-    let b = and_parts (eqb (length page) (4 + 3 * unit_count page + 3 * record_count page)) _ a.1 in
-    leb-true _ _ (and_parts (eqb (get_or page 0 0) 1) _ b.1).1

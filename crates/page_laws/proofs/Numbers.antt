@@ -1,11 +1,11 @@
 -- Tests over lists of numbers as facts: every, doubled, the numbers in a row, and a function of each.
-use Rattle.std.proofs.Common.{◌≡◌, ℕ, zero, suc, ◌+◌, ◌<◌, ◌≤◌, Bool, true, false, not, ◌||◌, T, ◌⊎◌, ◌↔◌, List, [], ◌∷◌, ◌++◌, length, sym, refl, ap, ◌∙◌, subst, inl, inr, ⊎_elim, arith, T_not}
+use Rattle.std.proofs.Common.{◌≡◌, ℕ, zero, suc, ◌+◌, ◌<◌, ◌≤◌, Bool, not, ◌||◌, T, ◌⊎◌, ◌↔◌, List, [], ◌∷◌, ◌++◌, length, sym, refl, ap, ◌∙◌, subst, inl, inr, ⊎_elim, arith, T_not}
 use lib.Dec.{not_T}
 use Rattle.theory.specs.Maps.{listed}
 use Rattle.theory.specs.Chains.{On}
 use Rattle.theory.specs.Ranks.{Once}
-use Rattle.theory.proofs.Tests.{and-fst, and-snd, and_both, or-either, or_fst, or_snd, passes, passed}
-use Rattle.std.proofs.lemmas.Bool.{cases_lt, cases_eq, both_ways}
+use Rattle.theory.proofs.Tests.{and-fst, and-snd, and_both, or-either, or_fst, or_snd}
+use Rattle.std.proofs.lemmas.Bool.{cases_lt}
 use Rattle.theory.proofs.Lists.{listed-on}
 use Rattle.plain.specs.Lists.{every, doubled, numbers, each}
 
@@ -53,14 +53,6 @@ pub once-numbers : (from many : ℕ) → Once (numbers from many)
 once-numbers from zero = tt
 once-numbers from (suc many) = (λ o. let h = ((on-numbers (suc from) many from).0 o).0 in omega arith, once-numbers (suc from) many)
 
-pub each_append : (f : ℕ → ℕ) (xs ys : List ℕ) → each f (xs ++ ys) ≡ each f xs ++ each f ys
-each_append f [] ys = refl
-each_append f (x ∷ xs) ys = ap (λ (zs : List ℕ). f x ∷ zs) (each_append f xs ys)
-
-pub length-each : (f : ℕ → ℕ) (xs : List ℕ) → length (each f xs) ≡ length xs
-length-each f [] = refl
-length-each f (x ∷ xs) = ap suc (length-each f xs)
-
 pub on-each : (f : ℕ → ℕ) (xs : List ℕ) (x : ℕ) → On x xs → On (f x) (each f xs)
 on-each f [] x o = o
 on-each f (y ∷ ys) x (inl e) = inl (ap f e)
@@ -96,18 +88,3 @@ numbers-split from (suc a) b =
     let up : suc a + b ≡ suc (a + b) = omega arith in
     let here : suc from + a ≡ from + suc a = omega arith in
     ap (numbers from) up ∙ ap (λ (xs : List ℕ). from ∷ xs) (numbers-split (suc from) a b) ∙ ap (λ (n : ℕ). from ∷ (numbers (suc from) a ++ numbers n b)) here
-
--- a test asked of each number in turn
-pub every-broken : (f : ℕ → Bool) (from many k : ℕ) → from ≤ k → k < from + many → f k ≡ false → false ≡ every f (numbers from many)
-every-broken f from many k low high e = go (every f (numbers from many)) refl
-  where
-    go : (b : Bool) → every f (numbers from many) ≡ b → false ≡ b
-    go true t = absurd (both_ways (f k) e (passed (f k) ((every-on f (numbers from many)).0 (passes _ t) k ((on-numbers from many k).1 (low, high)))))
-    go false t = refl
-
-pub every_more : (f : ℕ → Bool) (k : ℕ) → every f (numbers 1 k) ≡ true → f (k + 1) ≡ true → every f (numbers 1 (k + 1)) ≡ true
-every_more f k e here =
-    passed _ ((every-on f (numbers 1 (k + 1))).1 (λ x o. let b = (on-numbers 1 (k + 1) x).0 o in ⊎_elim (λ (q : x ≡ k + 1). subst (λ (z : ℕ). T (f z)) (sym q) (passes _ here)) (λ q. before x b.0 b.1 q) (cases_eq x (k + 1))))
-  where
-    before : (x : ℕ) → 1 ≤ x → x < 1 + (k + 1) → (x ≡ k + 1 → ⊥) → T (f x)
-    before x a b q = (every-on f (numbers 1 k)).0 (passes _ e) x ((on-numbers 1 k x).1 (a, omega arith))

@@ -2,7 +2,11 @@
 use Rattle.std.proofs.Common.{◌≡◌, ℕ, ◌+◌, ◌<◌, ◌≤◌, Bool, true, false, not, ◌&&◌, ◌||◌, T, ◌↔◌, List, [], ◌∷◌, ◌++◌, length, get_or, drop, sym, refl, ap, ◌∙◌, subst, inl, inr, ⊎_elim}
 use Rattle.std.proofs.lemmas.List.{at_drop_more, at_drop_all}
 use Rattle.std.proofs.lemmas.Bool.{or_left}
+<<<<<<< HEAD
 use Rattle.std.specs.List.{list_any, list_all}
+=======
+use Rattle.std.proofs.lemmas.List.Folds.{list_any-append}
+>>>>>>> 28c9ee30e7c56a80af49c60a2676b4eb5c0e81d5
 use Rattle.theory.specs.Chains.{On}
 use Rattle.theory.proofs.Tests.{or-either, or_fst, or_snd}
 use Rattle.plain.specs.Lists.{some}
@@ -16,12 +20,7 @@ some-on f (x ∷ xs) =
     )
 
 pub some-append : (f : ℕ → Bool) (xs ys : List ℕ) → some f (xs ++ ys) ≡ (some f xs || some f ys)
-some-append f [] ys = refl
-some-append f (x ∷ xs) ys = ap (λ (b : Bool). f x || b) (some-append f xs ys) ∙ sym (or_assoc (f x) (some f xs) (some f ys))
-  where
-    or_assoc : (a b c : Bool) → ((a || b) || c) ≡ (a || (b || c))
-    or_assoc true b c = refl
-    or_assoc false b c = refl
+some-append = list_any-append
 
 -- a list asked number by number: the rest of it tells what the whole does
 module _ (p : ℕ → Bool) (xs : List ℕ) (i : ℕ) (whole : Bool) (inv : some p (drop i xs) ≡ whole) where

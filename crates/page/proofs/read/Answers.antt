@@ -17,10 +17,10 @@ returns-in_err-formed c =
     let no : has_form c.args.page.now ≡ false = search rules in
     rw (p.1, p.2, is) (refused-page c.args.page.now (λ q. both_ways _ no q.form))
 
-pub returns-in_err-ranks : goal.returns-in_err-ranks
-returns-in_err-ranks c =
-    let p = err_from_is_err_and c.from_residual-in_err-ranks.result c.from_residual-in_err-ranks.ensures.1 in
-    let is : c.in_err-ranks.field-0.0 ≡ fault.UnlawfulPage = search rules in
+pub returns-in_err-ranked : goal.returns-in_err-ranked
+returns-in_err-ranked c =
+    let p = err_from_is_err_and c.from_residual-in_err-ranked.result c.from_residual-in_err-ranked.ensures.1 in
+    let is : c.in_err-ranked.field-0.0 ≡ fault.UnlawfulPage = search rules in
     let none : c.read_units.result ≡ None = search rules in
     let same : c.in_ok-formed.formed ≡ c.args.page.now = search rules in
     rw (p.1, p.2, is) (refused-page c.args.page.now (subst (λ (q : List ℕ). Parts q → ⊥) same (MatchOption-at_none _ _ none c.read_units.ensures)))
@@ -30,5 +30,5 @@ returns-in_err-rows c =
     let p = err_from_is_err_and c.from_residual-in_err-rows.result c.from_residual-in_err-rows.ensures.1 in
     let is : c.in_err-rows.field-0.0 ≡ fault.UnlawfulPage = search rules in
     let none : c.read_rows.result ≡ None = search rules in
-    let same : c.in_ok-formed.formed ≡ c.args.page.now = search rules in
+    let same : c.in_ok-ranked.ranked.page ≡ c.args.page.now = search rules in
     rw (p.1, p.2, is) (refused-page c.args.page.now (subst (λ (q : List ℕ). Parts q → ⊥) same (MatchOption-at_none _ _ none c.read_rows.ensures)))

@@ -1,12 +1,12 @@
 use Rattle.std.proofs.Common.{◌≡◌, ◌+◌, List, [], ◌∷◌, ◌++◌, map, get_or, take, vec_items, sym, refl, ap, ◌∙◌, subst}
-use Rattle.std.proofs.lemmas.List.{take_more, take_all}
+use Rattle.std.proofs.lemmas.List.{take_more, take_all, map-append}
 use Rattle.std.proofs.lemmas.Slice.{pushed}
 use Rattle.plain.specs.Requests.{Request}
 use Rattle.book.specs.Views.{plain_of}
 use Rattle.history.specs.declared.calls.Call.{Call}
 use Rattle.history.specs.Calls.{request_of}
 use Rattle.history.specs.Played.{Played}
-use Rattle.history.proofs.Playing.{map-append, played-more, played-one}
+use Rattle.history.proofs.Playing.{played-more, played-one}
 use Rattle.history.proofs.Replayed.play.Goals as goal
 
 pub loop-call-preserved : goal.loop-call-preserved

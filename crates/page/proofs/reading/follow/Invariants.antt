@@ -8,7 +8,7 @@ use Rattle.page.proofs.reading.follow.Given as goal
 
 abbrev pub invariant-loop-next : goal.invariant-loop-next
 invariant-loop-next l =
-    (length l.seen ≡ 8001) × IsIndex (index_of l.next) l.next × ((list : List ℕ) × Along l.page l.i l.seen (has l.row) (index_of l.next) list)
+    (length l.seen ≡ 8001) × IsIndex (index_of l.next) l.next × ((list : List ℕ) × Along l.ranked.page l.i l.seen (has l.row) (index_of l.next) list)
 
 abbrev pub decreases-loop-next : goal.decreases-loop-next
 decreases-loop-next l = count (λ k. not (has l.row k))

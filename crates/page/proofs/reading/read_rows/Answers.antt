@@ -9,14 +9,14 @@ use Rattle.page_laws.proofs.Rows.{paired-more, paired-all, followed-none, follow
 use Rattle.page.proofs.reading.read_rows.Goals as goal
 
 pub loop-i-init : goal.loop-i-init
-loop-i-init c = (followed-none c.args.page.now c.none_seen-seen.result c.none_seen-seen.ensures, c.empty_rows-rows.ensures)
+loop-i-init c = (followed-none c.args.ranked.now.page c.none_seen-seen.result c.none_seen-seen.ensures, c.empty_rows-rows.ensures)
 
 pub loop-i-preserved : goal.loop-i-preserved
 loop-i-preserved c =
-    let page = c.args.page.now in
+    let page = c.args.ranked.now.page in
     let i = c.loop-i.i in
     let got = c.in_ok-row.ensures in
-    let once = subst Once c.requires c.lawful.ensures.once in (
+    let once = subst Once c.args.ranked.now.units c.lawful.ensures.once in (
       got.0,
       λ a b. c.write_row.ensures a b ∙ ap (λ (u : ℕ). cond (eqb a u) (has c.in_ok-row.row b) (in_row c.loop-i.rows a b)) c.unit.ensures
           ∙ both _ _ _ _ (got.1 b) (c.loop-i.invariant.1 a b) (eqb a (unit_in page i)) ∙ sym (paired-more page i (subst (λ n. i < n) c.units-i-end.ensures.is c.loop-i-test.true) once a b),
@@ -31,14 +31,14 @@ last page seen i n is a b f = let e : i ≡ unit_count page = omega arith in sub
 
 pub returns-else-all_seen : goal.returns-else-all_seen
 returns-else-all_seen c =
-    not-reached c.args.page.now c.loop-i.seen (last c.args.page.now c.loop-i.seen c.loop-i.i c.units-i-end.result c.units-i-end.ensures.is c.loop-i.auto.i-end c.loop-i-test.false c.loop-i.invariant.0) (sym c.all_seen.ensures ∙ c.if-all_seen.false)
+    not-reached c.args.ranked.now.page c.loop-i.seen (last c.args.ranked.now.page c.loop-i.seen c.loop-i.i c.units-i-end.result c.units-i-end.ensures.is c.loop-i.auto.i-end c.loop-i-test.false c.loop-i.invariant.0) (sym c.all_seen.ensures ∙ c.if-all_seen.false)
 
 pub returns-then-all_seen : goal.returns-then-all_seen
 returns-then-all_seen c =
-    let page = c.args.page.now in
-    let low = λ (u : ℕ) (o : On u (page_units page)). c.lawful.ensures.low u (subst (On u) (sym c.requires) o) in
+    let page = c.args.ranked.now.page in
+    let low = λ (u : ℕ) (o : On u (page_units page)). c.lawful.ensures.low u (subst (On u) (sym c.args.ranked.now.units) o) in
     let here : c.loop-i.i ≡ unit_count page = let a = c.loop-i.auto.i-end in let b = c.loop-i-test.false in let n = c.units-i-end.ensures.is in omega arith in (
-      followed-all page c.loop-i.seen c.units-i-end.ensures.form low (subst Once c.requires c.lawful.ensures.once)
+      followed-all page c.loop-i.seen c.units-i-end.ensures.form low (subst Once c.args.ranked.now.units c.lawful.ensures.once)
           (last page c.loop-i.seen c.loop-i.i c.units-i-end.result c.units-i-end.ensures.is c.loop-i.auto.i-end c.loop-i-test.false c.loop-i.invariant.0) (sym c.all_seen.ensures ∙ c.if-all_seen.true),
       λ a b. c.loop-i.invariant.1 a b ∙ ap (λ (n : ℕ). paired_by page n a b) here ∙ sym (paired-all page a b),
     )

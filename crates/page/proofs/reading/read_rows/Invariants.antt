@@ -6,4 +6,4 @@ use Rattle.page_laws.specs.Pairs.{paired_by}
 use Rattle.page.proofs.reading.read_rows.Given as goal
 
 abbrev pub invariant-loop-i : goal.invariant-loop-i
-invariant-loop-i l = Followed l.page l.i l.seen × ((a b : ℕ) → in_row l.rows a b ≡ paired_by l.page l.i a b)
+invariant-loop-i l = Followed l.ranked.page l.i l.seen × ((a b : ℕ) → in_row l.rows a b ≡ paired_by l.ranked.page l.i a b)

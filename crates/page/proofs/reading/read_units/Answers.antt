@@ -11,7 +11,7 @@ use Rattle.page.proofs.reading.read_units.Goals.{then-u-eq0-via-then-u-eq0, then
 
 pub returns-then-u-eq0 : goal.returns-then-u-eq0
 returns-then-u-eq0 c =
-    let page = c.args.page.now in
+    let page = c.args.page in
     let i = c.loop-i.i in
     elim c.then-u-eq0.branch [
       | then-u-eq0-via-then-u-eq0 w ↦ unit-zero page i (subst (λ n. i < n) c.units-i-end.ensures.is c.loop-i-test.true) (sym c.unit-u.ensures ∙ w.if-u-eq0.true)
@@ -21,13 +21,13 @@ returns-then-u-eq0 c =
 
 pub loop-i-preserved : goal.loop-i-preserved
 loop-i-preserved c =
-    let page = c.args.page.now in
+    let page = c.args.page in
     let i = c.loop-i.i in
     let order = order_of c.loop-i.ranks in
     c.insert.ensures ∙ ap (λ k. inserted k c.unit-u.result order) c.len.ensures ∙ inserted-last c.unit-u.result order
     ∙ ap (λ (xs : List ℕ). xs ++ c.unit-u.result ∷ []) c.loop-i.invariant ∙ ap (λ (u : ℕ). front page i ++ u ∷ []) c.unit-u.ensures ∙ sym (units-grown page i)
 
-pub returns : goal.returns
-returns c =
-    let here : c.loop-i.i ≡ unit_count c.args.page.now = let a = c.loop-i-test.false in let b = c.loop-i.auto.i-end in let n = c.units-i-end.ensures.is in omega arith in
-    c.loop-i.invariant ∙ ap (front c.args.page.now) here ∙ sym (units-all c.args.page.now)
+pub invariant_of-result : goal.invariant_of-result
+invariant_of-result c =
+    let here : c.loop-i.i ≡ unit_count c.args.page = let a = c.loop-i-test.false in let b = c.loop-i.auto.i-end in let n = c.units-i-end.ensures.is in omega arith in
+    record { units = c.loop-i.invariant ∙ ap (front c.args.page) here ∙ sym (units-all c.args.page) }

@@ -1,23 +1,30 @@
--- A listener up to b is one up to c, or b itself, since no unit lies between.
-use Rattle.std.proofs.Common.{◌≡◌, ℕ, ◌+◌, ◌<◌, ◌≤◌, true, false, ◌&&◌, sym, ap, ◌∙◌, subst, ⊎_elim, arith}
-use Rattle.std.proofs.lemmas.Bool.{cases_lt, cases_eq, cases_Bool, both_ways, and_from}
-use Rattle.theory.specs.Maps.{Map, Sound}
+-- A listener is one of the units so far, or the unit at hand.
+use Rattle.std.proofs.Common.{◌≡◌, ℕ, true, false, ◌&&◌, eqb, sym, ap, ◌∙◌, subst, inl, inr}
+use Rattle.std.proofs.lemmas.Bool.{cases_Bool, both_ways, and_from, or_cases, eqb-true}
 use Rattle.theory.specs.Hearing.{is_heard}
+use Rattle.theory.proofs.Distinct.{listed-more}
 use Rattle.theory.proofs.Tests.{passes, passed}
+use Rattle.units.specs.Listed.{left, members}
+use Rattle.units.proofs.Listing.{all-listed}
 use Rattle.page.proofs.rings.has_ring.Goals as goal
 
-module _ (m : Map) (sound : Sound m) (c b : ℕ) (between : (k : ℕ) → c + 1 ≤ k → k < b → m.unit k ≡ false) (before : (a k : ℕ) → k ≤ c → m.pair a k ≡ true → is_heard m k a ≡ false)
-    (here : (a : ℕ) → (is_heard m b a && m.pair a b) ≡ false) where
-  at_b : (a : ℕ) → m.pair a b ≡ true → is_heard m b a ≡ false
-  at_b a t = ⊎_elim (λ (h : is_heard m b a ≡ true). absurd (both_ways _ (here a) (and_from _ _ h t))) (λ f. f) (cases_Bool (is_heard m b a))
-
-  further : (a k : ℕ) → k ≤ b → m.pair a k ≡ true → is_heard m k a ≡ false
-  further a k h t = ⊎_elim (λ (q : k < c + 1). before a k (omega arith) t) (λ (q : c + 1 ≤ k). ⊎_elim (λ (e : k ≡ b). subst (λ (x : ℕ). is_heard m x a ≡ false) (sym e) (at_b a (ap (m.pair a) (sym e) ∙ t)))
-      (λ ne. gap q ne) (cases_eq k b)) (cases_lt k (c + 1))
-    where
-      gap : c + 1 ≤ k → (k ≡ b → ⊥) → is_heard m k a ≡ false
-      gap q ne = absurd (both_ways _ (between k q (omega arith)) (passed _ (sound.to a k (passes _ t))))
-
 pub loop-b-preserved : goal.loop-b-preserved
-loop-b-preserved g c =
-    further (g.M.Map.meaning c.args.m.now) c.sound.ensures c.loop-b.c c.in-Some.b c.in-Some.ensures.2 c.loop-b.invariant c.if-closes_ring.ensures
+loop-b-preserved g c a k on t =
+    let m = g.M.Map.meaning c.args.m.now in
+    elim (or_cases _ _ (sym (listed-more k c.loop-b.yielded c.in-Some.b) ∙ on)) [
+      | inl here ↦
+          let same = eqb-true k c.in-Some.b here in
+          let pair : m.pair a c.in-Some.b ≡ true = ap (m.pair a) (sym same) ∙ t in
+          elim (cases_Bool (is_heard m c.in-Some.b a)) [
+            | inl h ↦ absurd (both_ways _ (c.if-closes_ring.ensures a) (and_from _ _ h pair))
+            | inr f ↦ ap (λ (x : ℕ). is_heard m x a) same ∙ f
+          ]
+      | inr before ↦ c.loop-b.invariant a k before t
+    ]
+
+pub returns : goal.returns
+returns g c a k t =
+    let m = g.M.Map.meaning c.args.m.now in
+    let all : left c.into_iter-b-iterator.result ≡ members c.units-units.result = ap left c.into_iter-b-iterator.ensures.into_iter_gives ∙ c.iter-b-items.ensures in
+    let is = all-listed c.units-units.result _ all c.loop-b.yielded _ _ _ c.loop-b.yielded_by c.in-None.is c.next.ensures.steps k in
+    c.loop-b.invariant a k (is ∙ c.units-units.ensures k ∙ passed _ (c.sound.ensures.to a k (passes _ t))) t
