@@ -47,10 +47,6 @@ module _ (seen : ℕ → Bool) (xs : List ℕ) (i : ℕ) (inv : again seen (drop
   seen_all h = sym inv ∙ at_drop_all (again seen) xs i h
 
 -- tests of a list in the words of the library
-pub some_is : (f : ℕ → Bool) (xs : List ℕ) → list_any f xs ≡ some f xs
-some_is f [] = refl
-some_is f (x ∷ xs) = ap (λ b. f x || b) (some_is f xs)
-
 pub all_is : (f : ℕ → Bool) (xs : List ℕ) → list_all f xs ≡ not (some (λ x. not (f x)) xs)
 all_is f [] = refl
 all_is f (x ∷ xs) = ap (λ b. f x && b) (all_is f xs) ∙ turned (f x) (some (λ y. not (f y)) xs)

@@ -1,12 +1,8 @@
 -- A test that passes at some number of a list; the list asked number by number: what is found so far and what the rest says are the whole.
-use Rattle.std.proofs.Common.{◌≡◌, ℕ, ◌+◌, ◌<◌, ◌≤◌, Bool, true, false, not, ◌&&◌, ◌||◌, T, ◌↔◌, List, [], ◌∷◌, ◌++◌, length, get_or, drop, sym, refl, ap, ◌∙◌, subst, inl, inr, ⊎_elim}
+use Rattle.std.proofs.Common.{◌≡◌, ℕ, ◌+◌, ◌<◌, ◌≤◌, Bool, true, false, ◌||◌, T, ◌↔◌, List, [], ◌∷◌, ◌++◌, length, get_or, drop, sym, refl, ap, ◌∙◌, subst, inl, inr, ⊎_elim}
 use Rattle.std.proofs.lemmas.List.{at_drop_more, at_drop_all}
 use Rattle.std.proofs.lemmas.Bool.{or_left}
-<<<<<<< HEAD
-use Rattle.std.specs.List.{list_any, list_all}
-=======
 use Rattle.std.proofs.lemmas.List.Folds.{list_any-append}
->>>>>>> 28c9ee30e7c56a80af49c60a2676b4eb5c0e81d5
 use Rattle.theory.specs.Chains.{On}
 use Rattle.theory.proofs.Tests.{or-either, or_fst, or_snd}
 use Rattle.plain.specs.Lists.{some}
@@ -32,16 +28,3 @@ module _ (p : ℕ → Bool) (xs : List ℕ) (i : ℕ) (whole : Bool) (inv : some
 
   pub none_found : length xs ≤ i → whole ≡ false
   none_found h = sym inv ∙ at_drop_all (some p) xs i h
-
--- tests of a list in the words of the library
-pub some_is : (f : ℕ → Bool) (xs : List ℕ) → list_any f xs ≡ some f xs
-some_is f [] = refl
-some_is f (x ∷ xs) = ap (λ b. f x || b) (some_is f xs)
-
-pub all_is : (f : ℕ → Bool) (xs : List ℕ) → list_all f xs ≡ not (some (λ x. not (f x)) xs)
-all_is f [] = refl
-all_is f (x ∷ xs) = ap (λ b. f x && b) (all_is f xs) ∙ turned (f x) (some (λ y. not (f y)) xs)
-  where
-    turned : (a b : Bool) → (a && not b) ≡ not (not a || b)
-    turned true b = refl
-    turned false b = refl
