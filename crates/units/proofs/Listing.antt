@@ -138,7 +138,7 @@ fresh-passing f from (suc n) xs ys x e = at (f from) xs (λ zs q. fresh-passing 
         let head : from ≡ z = ap (λ l. get_or l 0 0) q in
         let tail : passing f (from + 1) n ≡ zs ++ x ∷ ys = ap (drop 1) q in
         let later : (x ≡ z → ⊥) = λ same. both_ways (listed x (passing f (from + 1) n))
-            (before-passing f (from + 1) n x (omega (arith, head, same))) (ap (listed x) tail ∙ listed-within x zs ys) in
+        (before-passing f (from + 1) n x (omega (arith, head, same))) (ap (listed x) tail ∙ listed-within x zs ys) in
         ap (λ b. b || listed x zs) (ne_eqb x z later) ∙ ih zs tail
 
 -- In a loop over a set: the next item is a member, and is none of the items so far.

@@ -1,5 +1,4 @@
 use Rattle.std.proofs.Common.{◌≡◌}
-use Rattle.theory.specs.Maps.{listed}
 use Rattle.maps.proofs.Copies.{units_on}
 use Rattle.maps.proofs.copy.put_units.Given as goal
 

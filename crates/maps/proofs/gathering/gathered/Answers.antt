@@ -1,4 +1,4 @@
-use Rattle.std.proofs.Common.{rules, ◌≡◌, ℕ, ◌+◌, Option, Some, None, subst}
+use Rattle.std.proofs.Common.{rules, ℕ, ◌+◌, Option, Some, subst}
 use Rattle.units.specs.Has.{has}
 use Rattle.units.specs.Sets.{Least}
 use Rattle.maps.proofs.Asked.{Gathered}
