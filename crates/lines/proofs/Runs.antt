@@ -1,7 +1,7 @@
 -- The longest start of a text that is a field: one byte more of it.
-use Rattle.std.proofs.Common.{◌≡◌, ℕ, zero, suc, ◌+◌, ◌<◌, ◌≤◌, Bool, true, false, cond, ◌&&◌, leb, List, [], ◌∷◌, ◌++◌, length, get_or, take, drop, Some, None, sym, refl, ap, ◌∙◌, arith}
+use Rattle.std.proofs.Common.{◌≡◌, ℕ, zero, suc, ◌+◌, ◌<◌, Bool, true, false, cond, ◌&&◌, leb, List, [], ◌∷◌, ◌++◌, length, get_or, take, drop, Some, None, sym, refl, ap, ◌∙◌, arith}
 use Rattle.std.specs.List.{prefix_len, take_while}
-use Rattle.std.proofs.lemmas.List.{at_drop_more, at_drop_all, take_more}
+use Rattle.std.proofs.lemmas.List.{at_drop_more, take_more}
 use Rattle.std.proofs.lemmas.List.Folds.{length-prefix_len}
 use Rattle.grammar.specs.Grammar.{name_byte}
 use Rattle.grammar.specs.Reading.{name_run, digit_run, value_after, digit, followed}
@@ -25,18 +25,12 @@ Follows xs v n = digit (get_or xs n 0) && leb (followed v (get_or xs n 0)) 255
 digit-more : (xs : List ℕ) (v n : ℕ) → n < length xs → (b : Bool) → Follows xs v n ≡ b → digit_run v (drop n xs) ≡ cond b (suc (digit_run (followed v (get_or xs n 0)) (drop (n + 1) xs))) 0
 digit-more xs v n h b e = at_drop_more (digit_run v) xs n 0 h ∙ ap (λ (t : Bool). cond t (suc (digit_run (followed v (get_or xs n 0)) (drop (n + 1) xs))) 0) e
 
-pub digit-stops : (xs : List ℕ) (v n : ℕ) → n < length xs → n + digit_run v (drop n xs) ≡ digit_run 0 xs → Follows xs v n ≡ false → n ≡ digit_run 0 xs
-digit-stops xs v n h inv off = let step = digit-more xs v n h false off in omega (arith, step)
-
 pub digit-goes : (xs : List ℕ) (v n w : ℕ) → n < length xs → n + digit_run v (drop n xs) ≡ digit_run 0 xs → Follows xs v n ≡ true → w ≡ followed v (get_or xs n 0) →
     n + 1 + digit_run w (drop (n + 1) xs) ≡ digit_run 0 xs
 digit-goes xs v n w h inv on is =
     let step = digit-more xs v n h true on in
     let same : digit_run w (drop (n + 1) xs) ≡ digit_run (followed v (get_or xs n 0)) (drop (n + 1) xs) = ap (λ (u : ℕ). digit_run u (drop (n + 1) xs)) is in
     omega (arith, step, same)
-
-pub digit-ends : (xs : List ℕ) (v n : ℕ) → length xs ≤ n → n + digit_run v (drop n xs) ≡ digit_run 0 xs → n ≡ digit_run 0 xs
-digit-ends xs v n h inv = let e = at_drop_all (digit_run v) xs n h in omega (arith, e)
 
 value-push : (v : ℕ) (xs : List ℕ) (y : ℕ) → value_after v (xs ++ y ∷ []) ≡ followed (value_after v xs) y
 value-push v [] y = refl
@@ -47,10 +41,6 @@ value-goes xs v n w h inv is =
     is ∙ ap (λ (u : ℕ). followed u (get_or xs n 0)) inv ∙ sym (ap (value_after 0) (take_more xs n 0 h) ∙ value-push 0 (take n xs) (get_or xs n 0))
 
 -- what `followed` of the code answers
-pub not-followed : (b : Bool) (n : ℕ) → None ≡ cond b (Some n) None → b ≡ false
-not-followed true n e = absurd (cc)
-not-followed false n e = refl
-
 pub is-followed : (b : Bool) (n m : ℕ) → Some m ≡ cond b (Some n) None → (b ≡ true) × (m ≡ n)
 is-followed true n m e = (refl, cc)
 is-followed false n m e = absurd (cc)

@@ -30,9 +30,6 @@ all_pass : (c : Check) (cs : List Check) → first_cause (c ∷ cs) ≡ None →
 all_pass (fault, true) cs e = let z : ◌≡◌ {A = ℕ} 0 1 = cc in absurd (omega arith)
 all_pass (fault, false) cs e = (refl, e)
 
-is-some-none : (o : Option (List ℕ)) (name : List ℕ) → o ≡ Some name → is_some o ≡ true
-is-some-none o name e = ap is_some e
-
 -- the names of an enrolled and of a dropped unit
 renamed-is : (u k : ℕ) (o : Option (List ℕ)) (names : Names) → k ≡ u → renamed u o names k ≡ o
 renamed-is u k o names e = cond-true (eqb k u) o (names k) (eq-eqb k u e)
