@@ -17,9 +17,10 @@ fn write_record(page: &mut [u8], at: usize, number: u8, index: u16)
     requires { at + 3 ≤ length page.old }
     ensures { take (at + 3) page.new ≡ take at page.old ++ record_bytes number index }
 {
+    let [low, high] = index.to_le_bytes();
     page[at] = number;
-    page[at + 1] = (index % 256) as u8;
-    page[at + 2] = (index / 256) as u8;
+    page[at + 1] = low;
+    page[at + 2] = high;
 }
 
 // The index of the record that comes next; the format has 0 where none is left.
