@@ -24,18 +24,18 @@ fn word_at(page: &[u8], at: usize) -> usize
     requires { at + 1 < length page.now }
     ensures { result ≡ word page.now at }
 {
-    usize::from(page[at]) + 256 * usize::from(page[at + 1])
+    usize::from(u16::from_le_bytes([page[at], page[at + 1]]))
 }
 
 // Whether the page begins as one does and has the length that it says.
 fn is_formed(page: &[u8]) -> bool
     ensures { result ≡ has_form page.now }
 {
-    if page.len() < 4 {
+    let [form, units, low, high, ..] = page else {
         return false;
-    }
-    let records = word_at(page, 2);
-    page.len() == 4 + 3 * usize::from(page[1]) + 3 * records && page[0] == 1 && records <= 8000
+    };
+    let records = usize::from(u16::from_le_bytes([*low, *high]));
+    page.len() == 4 + 3 * usize::from(*units) + 3 * records && *form == 1 && records <= 8000
 }
 
 // The record of an index; the format has 0 for none.

@@ -1,4 +1,5 @@
-// The bytes of a page, written record by record.
+// The bytes of a page, written record by record. Each writer is told the place of its first record and that record's number, and
+// writes by places: of a page that is lent out in pieces a proof would know no more than its length.
 ghost use Rattle.std.specs.Prelude.{◌≡◌, ◌+◌, ◌*◌, ◌<◌, ◌≤◌, ◌++◌, length, take, if◌then◌else◌, nat_eq};
 ghost use Rattle.units.specs.Has.{has};
 ghost use Rattle.theory.specs.Lists.{sum};
@@ -16,9 +17,10 @@ fn write_record(page: &mut [u8], at: usize, number: u8, index: u16)
     requires { at + 3 ≤ length page.old }
     ensures { take (at + 3) page.new ≡ take at page.old ++ record_bytes number index }
 {
+    let [low, high] = index.to_le_bytes();
     page[at] = number;
-    page[at + 1] = (index % 256) as u8;
-    page[at + 2] = (index / 256) as u8;
+    page[at + 1] = low;
+    page[at + 2] = high;
 }
 
 // The index of the record that comes next; the format has 0 where none is left.
