@@ -5,7 +5,6 @@
 ghost use Rattle.std.specs.Prelude.{◌≡◌, ℕ, true, false, not, ◌||◌, [], ◌∷◌, ◌++◌, length, Err};
 ghost use Rattle.units.specs.Has.{has};
 ghost use Rattle.theory.specs.Ranks.{Orders};
-ghost use Rattle.ranks.specs.Orders.{order_of};
 ghost use Rattle.labels.specs.Listed.{list_of};
 ghost use Rattle.mending.specs.Mended.{Mended};
 ghost use Rattle.plain.specs.Plain.{map_of, empty, hears};
@@ -50,7 +49,7 @@ impl<S: Store> Book<S> {
     // The kept labels, and the order of the ranks.
     fn ranked(&self) -> Ranked<'_>
         ensures labels { result.labels.now ≡ self.now.labels }
-        ensures order { result.order.now ≡ order_of self.now.ranks }
+        ensures order { result.order.now ≡ self.now.ranks }
     {
         Ranked {
             labels: &self.labels,
@@ -114,8 +113,8 @@ impl<S: Store> Book<S> {
 
     // Mends the labels after the store and the ranks have changed.
     fn mend_labels(&mut self, touched: &Touched) -> u32
-        requires { Orders (S.Map.meaning self.old.store) (order_of self.old.ranks) }
-        ensures mended { Mended (S.Map.meaning self.old.store) (order_of self.old.ranks) touched.now.ups touched.now.downs self.old.labels self.new.labels result }
+        requires { Orders (S.Map.meaning self.old.store) self.old.ranks }
+        ensures mended { Mended (S.Map.meaning self.old.store) self.old.ranks touched.now.ups touched.now.downs self.old.labels self.new.labels result }
         ensures store { self.new.store ≡ self.old.store }
         ensures ranks { self.new.ranks ≡ self.old.ranks }
     {

@@ -1,5 +1,5 @@
 -- The steps of mending: what each does to the two tables, and what it counts.
-use Rattle.std.specs.Prelude.{◌≡◌, ℕ, ◌+◌, ◌*◌, ◌<◌, ◌≤◌, Bool, not, ◌&&◌, T, ◌≢◌, List, nat_le, slice_index}
+use Rattle.std.specs.Prelude.{◌≡◌, ℕ, ◌+◌, ◌*◌, ◌<◌, ◌≤◌, Bool, not, ◌&&◌, T, ◌≢◌, List, slice_index}
 use Rattle.theory.specs.Maps.{Map}
 use Rattle.theory.specs.Chains.{On}
 use Rattle.theory.specs.Counts.{sum_below, count}

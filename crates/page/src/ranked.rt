@@ -1,6 +1,5 @@
 // A page whose units have been read: their order is that of the page.
 ghost use Rattle.std.specs.Prelude.{◌≡◌};
-ghost use Rattle.ranks.specs.Orders.{order_of};
 ghost use Rattle.plain.specs.Pages.{page_units};
 
 use crate::formed::Formed;
@@ -10,5 +9,5 @@ use ranks::Ranks;
 pub(crate) struct Ranked<'a> {
     pub page: Formed<'a>,
     pub ranks: Ranks,
-    ghost units: { order_of ranks ≡ page_units page },
+    ghost units: { ranks ≡ page_units page },
 }

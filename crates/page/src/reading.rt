@@ -2,7 +2,6 @@
 ghost use Rattle.std.specs.Prelude.{◌≡◌, ℕ, ◌+◌, ◌<◌, ◌≤◌, false, get_or, if◌then◌else◌, MatchOption, nat_eq, nat_le, slice_index_or};
 ghost use Rattle.units.specs.Has.{has, in_row};
 ghost use Rattle.theory.specs.Maps.{listed};
-ghost use Rattle.ranks.specs.Orders.{order_of};
 ghost use Rattle.plain.specs.Lists.{every, numbers, each};
 ghost use Rattle.plain.specs.Pages.{unit_count, record_count, listener_in, unit_chain, page_book};
 ghost use Rattle.page.specs.Indices.{index_of};
@@ -40,7 +39,7 @@ fn is_record(index: Option<usize>, records: usize) -> bool
 fn may_follow(ranked: &Ranked<'_>, seen: &[bool; 8001], row: &UnitSet, r: usize) -> bool
     requires low { 1 ≤ r }
     requires high { r ≤ record_count ranked.now.page }
-    ensures { result ≡ fresh_record ranked.now.page (order_of ranked.now.ranks) seen.now (has row.now) r }
+    ensures { result ≡ fresh_record ranked.now.page ranked.now.ranks seen.now (has row.now) r }
 {
     let page = &ranked.page;
     let records = page.records();

@@ -8,7 +8,6 @@ ghost use Rattle.theory.specs.Maps.{Map, listed};
 ghost use Rattle.theory.specs.Chains.{On};
 ghost use Rattle.theory.specs.Hearing.{is_heard};
 ghost use Rattle.plain.specs.Lists.{some, doubled};
-ghost use Rattle.ranks.specs.Orders.{order_of};
 ghost use Rattle.labels.specs.OfMaps.{KeptOf};
 
 use labels::Ranked;
@@ -19,7 +18,7 @@ mod joining;
 
 // Whether every unit of the list has a rank.
 pub fn all_known(ranks: &Ranks, units: &[u8]) -> bool
-    ensures { result ≡ not (some (λ u. not (listed u (order_of ranks.now))) units.now) }
+    ensures { result ≡ not (some (λ u. not (listed u ranks.now)) units.now) }
 {
     units.iter().all(|u| ranks.holds(*u))
 }
@@ -67,7 +66,7 @@ pub struct Partners<'a> {
 impl<'a> Partners<'a> {
     // Whether every partner has a rank.
     pub fn all_known(&self, ranks: &Ranks) -> bool
-        ensures { result ≡ not (some (λ u. not (listed u (order_of ranks.now))) (self.now.sources.now ++ self.now.listeners.now)) }
+        ensures { result ≡ not (some (λ u. not (listed u ranks.now)) (self.now.sources.now ++ self.now.listeners.now)) }
     {
         all_known(ranks, self.sources) && all_known(ranks, self.listeners)
     }

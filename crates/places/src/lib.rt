@@ -12,7 +12,6 @@ ghost use Rattle.theory.specs.Changes.{New};
 ghost use Rattle.theory.specs.Sizes.{rows_total};
 ghost use Rattle.labels.specs.Holding.{holds, rows_of};
 ghost use Rattle.plain.specs.Placing.{best_from};
-ghost use Rattle.ranks.specs.Orders.{order_of};
 ghost use Rattle.grid.specs.Meaning.{matrix_map};
 ghost use Rattle.partners.specs.Joins.{Gives, joined};
 ghost use Rattle.places.specs.Trials.{Addable, Triable, trial, told_of, smaller};
@@ -70,9 +69,9 @@ fn enrolled_copy<M: Map>(m: &M, v: u8, partners: &Partners) -> Matrix
 
 // The total of labels of the map, in the order with v put in after its first k units.
 fn total_at<M: Map>(m: &M, ranks: &Ranks, v: u8, k: u8) -> u32
-    requires new { Triable (M.Map.meaning m.now) v (order_of ranks.now) }
-    requires within { k ≤ length (order_of ranks.now) }
-    ensures { result ≡ total (M.Map.meaning m.now) (inserted k v (order_of ranks.now)) }
+    requires new { Triable (M.Map.meaning m.now) v ranks.now }
+    requires within { k ≤ length ranks.now }
+    ensures { result ≡ total (M.Map.meaning m.now) (inserted k v ranks.now) }
 {
     m.sound();
     let mut trial = ranks.clone().unwrap();
@@ -83,9 +82,9 @@ fn total_at<M: Map>(m: &M, ranks: &Ranks, v: u8, k: u8) -> u32
 
 // The place at rank k + 1.
 fn place_at<M: Map>(m: &M, ranks: &Ranks, v: u8, k: u8) -> Place
-    requires new { Triable (M.Map.meaning m.now) v (order_of ranks.now) }
-    requires within { k ≤ length (order_of ranks.now) }
-    ensures { told_of result ≡ (k + 1, trial (M.Map.meaning m.now) v (order_of ranks.now) (k + 1)) }
+    requires new { Triable (M.Map.meaning m.now) v ranks.now }
+    requires within { k ≤ length ranks.now }
+    ensures { told_of result ≡ (k + 1, trial (M.Map.meaning m.now) v ranks.now (k + 1)) }
 {
     Place {
         rank: k + 1,
@@ -106,8 +105,8 @@ fn better(first: Place, second: Place) -> Place
 
 // The best of all ranks for v, tried from the lowest up: the least total, and of equals the least rank.
 fn best_of<M: Map>(m: &M, ranks: &Ranks, v: u8) -> Place
-    requires { Triable (M.Map.meaning m.now) v (order_of ranks.now) }
-    ensures { told_of result ≡ best_from (trial (M.Map.meaning m.now) v (order_of ranks.now)) 1 (length (order_of ranks.now)) }
+    requires { Triable (M.Map.meaning m.now) v ranks.now }
+    ensures { told_of result ≡ best_from (trial (M.Map.meaning m.now) v ranks.now) 1 (length ranks.now) }
 {
     let n = ranks.len();
     let mut best = place_at(m, ranks, v, n);
@@ -119,9 +118,9 @@ fn best_of<M: Map>(m: &M, ranks: &Ranks, v: u8) -> Place
 
 // The rank at which v would leave the fewest labels in the map, the least of equals, and how many they would be.
 pub fn best_place<M: Map>(m: &M, ranks: &Ranks, v: u8, partners: &Partners) -> Place
-    requires orders { Orders (M.Map.meaning m.now) (order_of ranks.now) }
+    requires orders { Orders (M.Map.meaning m.now) ranks.now }
     requires new { New (M.Map.meaning m.now) v partners.now.sources.now partners.now.listeners.now }
-    ensures { told_of result ≡ best_from (trial (enrolled v partners.now.sources.now partners.now.listeners.now (M.Map.meaning m.now)) v (order_of ranks.now)) 1 (length (order_of ranks.now)) }
+    ensures { told_of result ≡ best_from (trial (enrolled v partners.now.sources.now partners.now.listeners.now (M.Map.meaning m.now)) v ranks.now) 1 (length ranks.now) }
 {
     m.sound();
     best_of(&enrolled_copy(m, v, partners), ranks, v)

@@ -3,11 +3,6 @@ use Rattle.std.specs.Prelude.{◌≡◌, ℕ, ◌-◌, ◌≤◌, Bool, cond, no
 use Rattle.theory.specs.Maps.{listed}
 use Rattle.theory.specs.Chains.{On}
 use Rattle.theory.specs.Ranks.{rank_in, Once}
-use Rattle.ranks.specs.declared.Ranks.{Ranks}
-
--- The units of a table, the highest first.
-abbrev pub order_of : Ranks → List ℕ
-order_of r = r
 
 -- What holds of every order: its units are numbers from 1 to 255, and none stands twice.
 pub record Lawful (order : List ℕ) : Type 0 where

@@ -1,4 +1,4 @@
-use Rattle.std.proofs.Common.{◌≡◌, ◌*◌, ◌≤◌, length, ap, ◌∙◌, arith}
+use Rattle.std.proofs.Common.{◌≡◌, length, ap, ◌∙◌, arith}
 use Rattle.units.specs.Has.{has}
 use Rattle.units.specs.Listed.{left, members}
 use Rattle.units.proofs.Listing.{all-given, all-listed, next-turn, next-given, length-members, before-next}

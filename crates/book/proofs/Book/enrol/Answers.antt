@@ -3,7 +3,6 @@ use Rattle.theory.specs.Maps.{enrolled}
 use Rattle.theory.specs.Hearing.{is_heard}
 use Rattle.theory.specs.Ranks.{inserted}
 use Rattle.theory.proofs.Enrols.{enrol_orders}
-use Rattle.ranks.specs.Orders.{order_of}
 use Rattle.plain.specs.Lists.{some}
 use Rattle.plain.specs.Requests.{Enrol, checks}
 use Rattle.book.proofs.Agree.{keeps}
@@ -16,7 +15,7 @@ use Rattle.book.proofs.Book.enrol.Goals as goal
 pub returns-in_err-check_enrol : goal.returns-in_err-check_enrol
 unfolding checks
 returns-in_err-check_enrol g c = record {
-  applied = refused g.S.Store.room (g.S.Map.meaning c.args.self.now.store) (order_of c.args.self.now.ranks) (Enrol c.args.v c.args.k c.args.sources.now c.args.listeners.now) c.from_residual.result _ c.in_err-check_enrol.ensures c.from_residual.ensures.1;
+  applied = refused g.S.Store.room (g.S.Map.meaning c.args.self.now.store) c.args.self.now.ranks (Enrol c.args.v c.args.k c.args.sources.now c.args.listeners.now) c.from_residual.result _ c.in_err-check_enrol.ensures c.from_residual.ensures.1;
   whole = c.requires;
   kept = λ cause e. refl;
 }
@@ -24,7 +23,7 @@ returns-in_err-check_enrol g c = record {
 pub attach-requires : goal.attach-requires
 attach-requires g c =
     let m = g.S.Map.meaning c.args.self.now.store in
-    let order = order_of c.args.self.now.ranks in
+    let order = c.args.self.now.ranks in
     let k = keeps m order c.args.self.now.labels c.requires in
     let small : c.args.v ≤ 255 = omega (arith, c.ranges.v.fits) in
     let passed = no-cause _ (tt {0}) c.in_ok-check_enrol.ensures in
@@ -36,7 +35,7 @@ returns-in_err-attach g c = absurd (let z : ◌≡◌ {A = ℕ} 0 1 = cc c.in_er
 pub overflow_sub-k : goal.overflow_sub-k
 overflow_sub-k g c =
     let m = g.S.Map.meaning c.args.self.now.store in
-    let order = order_of c.args.self.now.ranks in
+    let order = c.args.self.now.ranks in
     let k = keeps m order c.args.self.now.labels c.requires in
     let small : c.args.v ≤ 255 = omega (arith, c.ranges.v.fits) in
     let passed = no-cause _ (tt {0}) c.in_ok-check_enrol.ensures in
@@ -45,7 +44,7 @@ overflow_sub-k g c =
 pub insert-requires-3 : goal.insert-requires-3
 insert-requires-3 g c =
     let m = g.S.Map.meaning c.args.self.now.store in
-    let order = order_of c.args.self.now.ranks in
+    let order = c.args.self.now.ranks in
     let k = keeps m order c.args.self.now.labels c.requires in
     let small : c.args.v ≤ 255 = omega (arith, c.ranges.v.fits) in
     let passed = no-cause _ (tt {0}) c.in_ok-check_enrol.ensures in
@@ -54,7 +53,7 @@ insert-requires-3 g c =
 pub mend_labels-requires : goal.mend_labels-requires
 mend_labels-requires g c =
     let m = g.S.Map.meaning c.args.self.now.store in
-    let order = order_of c.args.self.now.ranks in
+    let order = c.args.self.now.ranks in
     let k = keeps m order c.args.self.now.labels c.requires in
     let small : c.args.v ≤ 255 = omega (arith, c.ranges.v.fits) in
     let passed = no-cause _ (tt {0}) c.in_ok-check_enrol.ensures in
@@ -63,7 +62,7 @@ mend_labels-requires g c =
 pub returns : goal.returns
 returns g c =
     let m = g.S.Map.meaning c.args.self.now.store in
-    let order = order_of c.args.self.now.ranks in
+    let order = c.args.self.now.ranks in
     let k = keeps m order c.args.self.now.labels c.requires in
     let small : c.args.v ≤ 255 = omega (arith, c.ranges.v.fits) in
     let passed = no-cause _ (tt {0}) c.in_ok-check_enrol.ensures in
@@ -73,7 +72,7 @@ returns g c =
     let done = enrol-done g.S.Store.room m order c.args.self.now.labels k c.args.v c.args.k small c.args.sources.now c.args.listeners.now passed c.insert.new.self c.insert-2.new.self
     (with-own c.args.v c.heard-ups.result _ (λ u. some (λ s. is_heard m u s) c.args.sources.now) c.insert.ensures ups)
     (with-own c.args.v c.hearers-downs.result _ (λ u. some (λ t. is_heard m t u) c.args.listeners.now) c.insert-2.ensures downs)
-    c.mend_labels.new.self.labels c.mend_labels.result (g.S.Map.meaning c.mend_labels.new.self.store) (order_of c.mend_labels.new.self.ranks)
+    c.mend_labels.new.self.labels c.mend_labels.result (g.S.Map.meaning c.mend_labels.new.self.store) c.mend_labels.new.self.ranks
     (mended-at _ (enrolled c.args.v c.args.sources.now c.args.listeners.now m) _ (inserted (c.args.k - 1) c.args.v order) _ _ _ _ _ c.attach.ensures.left c.insert-3.ensures c.mend_labels.ensures.mended)
-    (ap g.S.Map.meaning c.mend_labels.ensures.store ∙ c.attach.ensures.left) (ap order_of c.mend_labels.ensures.ranks ∙ c.insert-3.ensures) in
+    (ap g.S.Map.meaning c.mend_labels.ensures.store ∙ c.attach.ensures.left) (c.mend_labels.ensures.ranks ∙ c.insert-3.ensures) in
     record { applied = done.0; whole = done.1; kept = λ cause e. not-refused c.mend_labels.result cause e }

@@ -1,7 +1,6 @@
-use Rattle.std.proofs.Common.{length, refl}
+use Rattle.std.proofs.Common.{length}
 use Rattle.labels.specs.Listed.{list_of}
 use Rattle.plain.specs.Plain.{map_of}
-use Rattle.plain.specs.Requests.{checks}
 use Rattle.book.specs.Views.{plain_of}
 use Rattle.book.specs.Answers.{list_request}
 use Rattle.book.proofs.Listing.{list-refused, list-told, list-checks, by_order}

@@ -1,6 +1,5 @@
 use Rattle.std.proofs.Common.{◌≡◌, ℕ, refl, ap, ◌∙◌, arith}
 use Rattle.theory.specs.Maps.{with_pair}
-use Rattle.ranks.specs.Orders.{order_of}
 use Rattle.plain.specs.Requests.{Pair, checks, pair_checks}
 use Rattle.book.specs.Views.{plain_by}
 use Rattle.book.proofs.Agree.{keeps}
@@ -12,7 +11,7 @@ use Rattle.book.proofs.Book.pair.Goals as goal
 pub returns-in_err-check_pair : goal.returns-in_err-check_pair
 unfolding checks
 returns-in_err-check_pair g c = record {
-  applied = refused g.S.Store.room (g.S.Map.meaning c.args.self.now.store) (order_of c.args.self.now.ranks) (Pair c.args.a c.args.b) c.from_residual.result _ c.in_err-check_pair.ensures c.from_residual.ensures.1;
+  applied = refused g.S.Store.room (g.S.Map.meaning c.args.self.now.store) c.args.self.now.ranks (Pair c.args.a c.args.b) c.from_residual.result _ c.in_err-check_pair.ensures c.from_residual.ensures.1;
   whole = c.requires;
   kept = λ cause e. refl;
 }
@@ -26,19 +25,19 @@ returns-in_err-join g c =
 pub touched-touched-requires : goal.touched-touched-requires
 touched-touched-requires g c =
     let m = g.S.Map.meaning c.args.self.now.store in
-    let order = order_of c.args.self.now.ranks in
+    let order = c.args.self.now.ranks in
     let passed = no-cause _ (tt {0}) c.in_ok-check_pair.ensures in
     record { whole = c.requires; stand = both-known order c.args.a c.args.b (all-absent (pair_checks g.S.Store.room (plain_by m order) c.args.a c.args.b) passed).0 }
 
 pub returns : goal.returns
 returns g c =
     let m = g.S.Map.meaning c.args.self.now.store in
-    let order = order_of c.args.self.now.ranks in
+    let order = c.args.self.now.ranks in
     let k = keeps m order c.args.self.now.labels c.requires in
     let passed = no-cause _ (tt {0}) c.in_ok-check_pair.ensures in
     let left = c.in_ok-join.ensures.1 in
     let done = pair-done g.S.Store.room m order c.args.self.now.labels k c.args.a c.args.b passed c.touched-touched.result.ups c.touched-touched.result.downs c.touched-touched.ensures.ups c.touched-touched.ensures.downs
-    c.mend_labels.new.self.labels c.mend_labels.result (g.S.Map.meaning c.mend_labels.new.self.store) (order_of c.mend_labels.new.self.ranks)
+    c.mend_labels.new.self.labels c.mend_labels.result (g.S.Map.meaning c.mend_labels.new.self.store) c.mend_labels.new.self.ranks
     (mended-at _ (with_pair c.args.a c.args.b m) _ order _ _ _ _ _ left refl c.mend_labels.ensures.mended)
-    (ap g.S.Map.meaning c.mend_labels.ensures.store ∙ left) (ap order_of c.mend_labels.ensures.ranks) in
+    (ap g.S.Map.meaning c.mend_labels.ensures.store ∙ left) c.mend_labels.ensures.ranks in
     record { applied = done.0; whole = done.1; kept = λ cause e. not-refused c.mend_labels.result cause e }

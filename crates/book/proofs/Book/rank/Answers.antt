@@ -1,7 +1,6 @@
 use Rattle.std.proofs.Common.{◌-◌, refl, ap, ◌∙◌}
 use Rattle.theory.specs.Ranks.{moved}
 use Rattle.theory.proofs.Enrols.{rank_orders}
-use Rattle.ranks.specs.Orders.{order_of}
 use Rattle.plain.specs.Requests.{Rank, checks, rank_checks}
 use Rattle.book.specs.Views.{plain_by}
 use Rattle.book.proofs.Agree.{keeps}
@@ -14,7 +13,7 @@ use Rattle.book.proofs.Book.rank.Goals as goal
 pub returns-in_err-check_rank : goal.returns-in_err-check_rank
 unfolding checks
 returns-in_err-check_rank g c = record {
-  applied = refused g.S.Store.room (g.S.Map.meaning c.args.self.now.store) (order_of c.args.self.now.ranks) (Rank c.args.v c.args.k) c.from_residual.result _ c.in_err-check_rank.ensures c.from_residual.ensures.1;
+  applied = refused g.S.Store.room (g.S.Map.meaning c.args.self.now.store) c.args.self.now.ranks (Rank c.args.v c.args.k) c.from_residual.result _ c.in_err-check_rank.ensures c.from_residual.ensures.1;
   whole = c.requires;
   kept = λ cause e. refl;
 }
@@ -22,7 +21,7 @@ returns-in_err-check_rank g c = record {
 pub touched-touched-requires : goal.touched-touched-requires
 touched-touched-requires g c =
     let m = g.S.Map.meaning c.args.self.now.store in
-    let order = order_of c.args.self.now.ranks in
+    let order = c.args.self.now.ranks in
     let passed = no-cause _ (tt {0}) c.in_ok-check_rank.ensures in
     let there = one_known order c.args.v (all-absent (rank_checks (plain_by m order) c.args.v c.args.k) passed).0 in
     record { whole = c.requires; stand = (there, there) }
@@ -30,7 +29,7 @@ touched-touched-requires g c =
 pub mend_labels-requires : goal.mend_labels-requires
 mend_labels-requires g c =
     let m = g.S.Map.meaning c.args.self.now.store in
-    let order = order_of c.args.self.now.ranks in
+    let order = c.args.self.now.ranks in
     let k = keeps m order c.args.self.now.labels c.requires in
     let passed = no-cause _ (tt {0}) c.in_ok-check_rank.ensures in
     let unit = in_order m order k.orders c.args.v (one_known order c.args.v (all-absent (rank_checks (plain_by m order) c.args.v c.args.k) passed).0) in
@@ -39,11 +38,11 @@ mend_labels-requires g c =
 pub returns : goal.returns
 returns g c =
     let m = g.S.Map.meaning c.args.self.now.store in
-    let order = order_of c.args.self.now.ranks in
+    let order = c.args.self.now.ranks in
     let k = keeps m order c.args.self.now.labels c.requires in
     let passed = no-cause _ (tt {0}) c.in_ok-check_rank.ensures in
     let done = rank-done m order c.args.self.now.labels k c.args.v g.S.Store.room c.args.k passed c.touched-touched.result.ups c.touched-touched.result.downs c.touched-touched.ensures.ups c.touched-touched.ensures.downs
-    c.mend_labels.new.self.labels c.mend_labels.result (g.S.Map.meaning c.mend_labels.new.self.store) (order_of c.mend_labels.new.self.ranks)
+    c.mend_labels.new.self.labels c.mend_labels.result (g.S.Map.meaning c.mend_labels.new.self.store) c.mend_labels.new.self.ranks
     (mended-at _ (m) _ (moved (c.args.k - 1) c.args.v order) _ _ _ _ _ refl c.move_to.ensures c.mend_labels.ensures.mended)
-    (ap g.S.Map.meaning c.mend_labels.ensures.store) (ap order_of c.mend_labels.ensures.ranks ∙ c.move_to.ensures) in
+    (ap g.S.Map.meaning c.mend_labels.ensures.store) (c.mend_labels.ensures.ranks ∙ c.move_to.ensures) in
     record { applied = done.0; whole = done.1; kept = λ cause e. not-refused c.mend_labels.result cause e }

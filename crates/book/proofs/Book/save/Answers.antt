@@ -5,7 +5,6 @@ use Rattle.theory.specs.Maps.{Map}
 use Rattle.theory.specs.Counts.{pair_count}
 use Rattle.theory.specs.Ranks.{Orders}
 use Rattle.theory.proofs.Counting.{pair-count-same}
-use Rattle.ranks.specs.Orders.{order_of}
 use Rattle.plain.specs.Plain.{map_of, plain_by}
 use Rattle.plain.specs.Saving.{saved_page}
 use Rattle.book.specs.Views.{plain_of}
@@ -28,7 +27,7 @@ returns-then-not-fits g c =
 
 pub write-requires : goal.write-requires
 write-requires g c =
-    let k = keeps (g.S.Map.meaning c.args.self.now.store) (order_of c.args.self.now.ranks) c.args.self.now.labels c.requires in
+    let k = keeps (g.S.Map.meaning c.args.self.now.store) c.args.self.now.ranks c.args.self.now.labels c.requires in
     let room = leb-true _ _ (sym c.if-not-fits.ensures) in
     let part = c.args.place + c.page_length-length.result - c.args.place in
     let rest = length-drop c.args.place c.args.buffer.now in

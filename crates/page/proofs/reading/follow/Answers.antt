@@ -2,7 +2,6 @@
 use Rattle.std.proofs.Common.{rules, ◌≡◌, ℕ, ◌<◌, ◌≤◌, Bool, true, ◌||◌, eqb, ◌≢◌, List, [], ◌∷◌, ◌++◌, set, Some, Option, sym, refl, ap, ◌∙◌, subst, arith, length-set}
 use Rattle.std.proofs.lemmas.Bool.{leb-true}
 use Rattle.units.specs.Has.{has}
-use Rattle.ranks.specs.Orders.{order_of}
 use Rattle.plain.specs.Pages.{record_count, listener_in}
 use Rattle.page_laws.specs.Along.{Along}
 use Rattle.page_laws.proofs.Follow.{stuck, followed-more, met-falls, along-done}
@@ -48,7 +47,7 @@ pub returns-then-not-may_follow : goal.returns-then-not-may_follow
 returns-then-not-may_follow c =
     let inv = c.loop-next.invariant in
     let page = c.args.ranked.now.page in
-    stuck page c.args.i c.loop-next.seen (has c.loop-next.row) c.in-Some.r inv.2.0 (front page c.args.i _ _ _ _ _ c.in-Some.is inv.1 inv.2.1) (order_of c.args.ranked.now.ranks) c.args.ranked.now.units c.requires.within
+    stuck page c.args.i c.loop-next.seen (has c.loop-next.row) c.in-Some.r inv.2.0 (front page c.args.i _ _ _ _ _ c.in-Some.is inv.1 inv.2.1) c.args.ranked.now.ranks c.args.ranked.now.units c.requires.within
     (some_record page c.args.i _ _ _ _ _ c.in-Some.is inv.1 inv.2.1) (sym c.if-not-may_follow.ensures)
 
 wider : (c : goal.After-next-next) (k : ℕ) → has c.insert.new.self k ≡ (eqb k (listener_in c.args.ranked.now.page c.in-Some.r) || has c.loop-next.row k)
@@ -56,7 +55,7 @@ wider c k = c.insert.ensures k ∙ ap (λ (l : ℕ). eqb k l || has c.loop-next.
 
 pub loop-next-smaller : goal.loop-next-smaller
 loop-next-smaller c =
-    met-falls c.args.ranked.now.page (order_of c.args.ranked.now.ranks) c.loop-next.seen (has c.loop-next.row) (has c.insert.new.self) c.in-Some.r
+    met-falls c.args.ranked.now.page c.args.ranked.now.ranks c.loop-next.seen (has c.loop-next.row) (has c.insert.new.self) c.in-Some.r
     (subst (λ (l : ℕ). l < 256) c.listener.ensures c.listener.type_inv) (sym c.if-not-may_follow.ensures) (wider c)
 
 pub loop-next-preserved : goal.loop-next-preserved
@@ -72,7 +71,7 @@ loop-next-preserved c =
       (
         inv.2.0 ++ c.in-Some.r ∷ [],
         subst (λ (n : ℕ). Along page c.args.i more (has c.insert.new.self) n (inv.2.0 ++ c.in-Some.r ∷ [])) (sym (index-is _ _ c.next-next.ensures))
-            (followed-more page c.args.i c.loop-next.seen (has c.loop-next.row) c.in-Some.r inv.2.0 (front page c.args.i _ _ _ _ _ c.in-Some.is inv.1 inv.2.1) (order_of c.args.ranked.now.ranks) c.args.ranked.now.units
+            (followed-more page c.args.i c.loop-next.seen (has c.loop-next.row) c.in-Some.r inv.2.0 (front page c.args.i _ _ _ _ _ c.in-Some.is inv.1 inv.2.1) c.args.ranked.now.ranks c.args.ranked.now.units
             more (has c.insert.new.self) (some_record page c.args.i _ _ _ _ _ c.in-Some.is inv.1 inv.2.1) (omega arith) (sym c.if-not-may_follow.ensures) refl (wider c)),
       ),
     )

@@ -2,7 +2,6 @@
 use Rattle.std.proofs.Common.{◌≡◌, ℕ, ◌<◌, List, [], ◌∷◌, ◌++◌, subst, sym, ap, ◌∙◌, arith}
 use Rattle.theory.specs.Maps.{listed}
 use Rattle.theory.specs.Ranks.{inserted}
-use Rattle.ranks.specs.Orders.{order_of}
 use Rattle.ranks.proofs.Whole.{inserted-last}
 use Rattle.plain.specs.Pages.{unit_count}
 use Rattle.page_laws.proofs.Units.{units-grown, units-all, unit-listed, unit-zero, front}
@@ -23,7 +22,7 @@ pub loop-i-preserved : goal.loop-i-preserved
 loop-i-preserved c =
     let page = c.args.page in
     let i = c.loop-i.i in
-    let order = order_of c.loop-i.ranks in
+    let order = c.loop-i.ranks in
     c.insert.ensures ∙ ap (λ k. inserted k c.unit-u.result order) c.len.ensures ∙ inserted-last c.unit-u.result order
     ∙ ap (λ (xs : List ℕ). xs ++ c.unit-u.result ∷ []) c.loop-i.invariant ∙ ap (λ (u : ℕ). front page i ++ u ∷ []) c.unit-u.ensures ∙ sym (units-grown page i)
 

@@ -1,5 +1,5 @@
 -- A listener is one of the units so far, or the unit at hand.
-use Rattle.std.proofs.Common.{◌≡◌, ℕ, true, false, ◌&&◌, eqb, sym, ap, ◌∙◌, subst, inl, inr}
+use Rattle.std.proofs.Common.{◌≡◌, ℕ, true, sym, ap, ◌∙◌, inl, inr}
 use Rattle.std.proofs.lemmas.Bool.{cases_Bool, both_ways, and_from, or_cases, eqb-true}
 use Rattle.theory.specs.Hearing.{is_heard}
 use Rattle.theory.proofs.Distinct.{listed-more}
