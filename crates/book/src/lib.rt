@@ -260,6 +260,7 @@ impl<S: Store> Book<S> {
     }
 
     // Enrols v at the rank k: units from there on move down, each source is paired to v and v to each listener.
+    // The two lists are parameters here and at `best_place`, where a caller writes them; within, they are one value.
     pub fn enrol(
         &mut self,
         v: u8,

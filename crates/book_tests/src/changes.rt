@@ -47,15 +47,3 @@ pub fn put<S: Store>(book: &mut Book<S>, change: &Change<'_>) -> Result<u32, Boo
         Change::Rank(v, k) => book.rank(v, k),
     }
 }
-
-// Asks the book for a list of u.
-pub fn ask<S: Store>(
-    book: &Book<S>,
-    list: List,
-    u: u8,
-    buffer: &mut [u8],
-) -> Result<usize, BookFault>
-    requires { Whole S.Map.meaning book.now }
-{
-    book.list(list, u, buffer)
-}

@@ -1,7 +1,7 @@
 // The tests, over any store: each body takes an empty book.
 ghost use Rattle.book.specs.Views.{Whole};
 
-use crate::changes::{Change, List, ask, enrol, put};
+use crate::changes::{Change, List, enrol, put};
 use book::Book;
 use grid::Grid;
 use maps::Store;
@@ -35,7 +35,7 @@ fn tells_list<S: Store>(rt: &impl Abort, book: &Book<S>, told: &Told<'_>) -> Res
     requires { Whole S.Map.meaning book.now }
 {
     let mut buffer = [0; 255];
-    let n = ask(book, told.0, told.1, &mut buffer)?;
+    let n = book.list(told.0, told.1, &mut buffer)?;
     assert!(rt; n <= 255);
     assert_eq!(rt; &buffer[0..n], told.2);
     Ok(())
@@ -54,7 +54,7 @@ fn tells<S: Store>(rt: &impl Abort, book: &Book<S>, lists: &[Told<'_>]) -> Resul
 fn length<S: Store>(book: &Book<S>, list: List, u: u8) -> usize
     requires { Whole S.Map.meaning book.now }
 {
-    ask(book, list, u, &mut [0; 255]).unwrap_or(0)
+    book.list(list, u, &mut [0; 255]).unwrap_or(0)
 }
 
 // How many labels of u stand.

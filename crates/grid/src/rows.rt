@@ -32,7 +32,8 @@ pub(crate) fn remove_at(rows: &mut [UnitSet; 256], x: u8, y: u8)
     rows[x as usize].remove(y);
 }
 
-// Takes y out of the set of each member of `among`.
+// Takes y out of the set of each member of `among`. It differs from the next in what it does, not in a type or a number: a
+// closure for that would be no plainer.
 pub(crate) fn remove_among(rows: &mut [UnitSet; 256], among: &UnitSet, y: u8)
     ensures { (p q : ℕ) → in_row rows.new p q ≡ (not (has among.now p && q == y) && in_row rows.old p q) }
 {

@@ -90,7 +90,7 @@ impl<'a> Formed<'a> {
         record_of(word_at(page, 4 + 3 * i + 1))
     }
 
-    // The listener of a pairing record, counted from 1.
+    // The listener of a pairing record, counted from 1 as the format does; a type for such numbers would be asked as much.
     pub(crate) fn listener(&self, r: usize) -> u8
         requires low { 1 ≤ r }
         requires high { r ≤ record_count self.now }

@@ -19,11 +19,7 @@ pub(crate) fn read_units(page: Formed<'_>) -> Option<Ranked<'_>>
 {
     let mut ranks = Ranks::empty();
     for i in 0..page.units() {
-        let u = page.unit(i);
-        if u == 0 || ranks.holds(u) {
-            return None;
-        }
-        ranks.insert(ranks.len(), u);
+        ranks.push(page.unit(i))?;
     }
     Some(Ranked { page, ranks })
 }

@@ -24,7 +24,7 @@ fn closes_ring<M: Map>(m: &M, b: u8) -> bool
     heard_from(m, b).intersects(&m.sources(b))
 }
 
-// Whether some unit is paired to one that it hears. A map tells its units one above the other, and has no iterator over them.
+// Whether some unit is paired to one that it hears.
 pub(crate) fn has_ring<M: Map>(m: &M) -> bool
     ensures { Ringed result (M.Map.meaning m.now) }
 {

@@ -7,7 +7,7 @@ use Rattle.theory.specs.Chains.{On}
 use Rattle.theory.specs.Ranks.{Once}
 use Rattle.theory.specs.Counts.{count}
 use Rattle.theory.proofs.Counting.{count-falls}
-use Rattle.theory.proofs.Distinct.{on-from-listed, off-from-listed, at_most}
+use Rattle.theory.proofs.Distinct.{on-from-listed, off-from-listed, at_most, listed-more}
 use Rattle.plain.specs.Lists.{numbers, each}
 use Rattle.plain.specs.Pages.{unit_count, record_count, first_of, listener_in, next_of, page_units, chain, unit_chain, chains}
 use Rattle.page_laws.specs.Parts.{Right, Parts, Marked, Followed}
@@ -16,16 +16,6 @@ use Rattle.page_laws.specs.Fresh.{fresh_record}
 use Rattle.page_laws.proofs.Numbers.{numbers_more, on-append, once-append}
 
 -- a list with one more at the end
-pub listed_more : (k : ℕ) (xs : List ℕ) (x : ℕ) → listed k (xs ++ x ∷ []) ≡ (eqb k x || listed k xs)
-listed_more k [] x = refl
-listed_more k (y ∷ ys) x = ap (λ (b : Bool). eqb k y || b) (listed_more k ys x) ∙ swapped (eqb k y) (eqb k x) (listed k ys)
-  where
-    swapped : (a b c : Bool) → (a || (b || c)) ≡ (b || (a || c))
-    swapped true true c = refl
-    swapped true false c = refl
-    swapped false true c = refl
-    swapped false false c = refl
-
 pub once_more : (xs : List ℕ) (x : ℕ) → Once xs → (On x xs → ⊥) → Once (xs ++ x ∷ [])
 once_more xs x once far = (once-append xs (x ∷ [])).1 (once, (λ o. o, tt), λ y a b. ⊎_elim (λ e. far (subst (λ (z : ℕ). On z xs) e a)) (λ o. o) b)
 
@@ -128,7 +118,7 @@ module _ (page : List ℕ) where
         right = λ k o. ⊎_elim (along.marked.right k) (λ q. ⊎_elim (λ e. subst (Right page) (sym e) right) (λ z. absurd z) q) ((on-append k before (r ∷ [])).0 (subst (On k) joined o));
         once = subst Once (sym joined) (once_more before r along.marked.once (off-from-listed r before (sym (along.marked.marks r along.small) ∙ fresh)));
       };
-      listeners = λ k. wide k ∙ ap (λ (b : Bool). eqb k (listener_in page r) || b) (along.listeners k) ∙ sym (listed_more k (each (listener_in page) list) (listener_in page r)) ∙ ap (listed k) (sym eached);
+      listeners = λ k. wide k ∙ ap (λ (b : Bool). eqb k (listener_in page r) || b) (along.listeners k) ∙ sym (listed-more k (each (listener_in page) list) (listener_in page r)) ∙ ap (listed k) (sym eached);
       differ = subst Once (sym eached) (once_more (each (listener_in page) list) (listener_in page r) along.differ (off-from-listed _ _ (sym (along.listeners (listener_in page r)) ∙ new)));
     }
       where
@@ -149,7 +139,7 @@ module _ (page : List ℕ) where
         right = record { low = one r ne; high = along.small; next = next; listener = on-from-listed _ _ unit }
 
         same : (k : ℕ) → listed k (chains page (numbers 0 i) ++ (list ++ r ∷ [])) ≡ (eqb k r || listed k (chains page (numbers 0 i) ++ list))
-        same k = ap (listed k) joined ∙ listed_more k (chains page (numbers 0 i) ++ list) r
+        same k = ap (listed k) joined ∙ listed-more k (chains page (numbers 0 i) ++ list) r
 
         here : (k : ℕ) → k ≤ record_count page → k ≡ r → get_or more k false ≡ listed k (chains page (numbers 0 i) ++ (list ++ r ∷ []))
         here k h e =

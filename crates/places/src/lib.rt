@@ -43,7 +43,8 @@ fn total_of(labels: &Labels, order: &[u8]) -> u32
     order.iter().map(|u| holders(labels, *u)).sum()
 }
 
-// Pairs the ends that `ends` gives for each unit of the list.
+// Pairs the ends that `ends` gives for each unit of the list. Not one with the joining in a store: that has room, and may
+// refuse.
 fn add_all<F: Fn(u8) -> (u8, u8)>(map: &mut Matrix, units: &[u8], ends: F)
     requires callable { F.IsAlwaysCallable ends }
     requires able { (p : ℕ → ℕ × ℕ) × Gives (λ u q. F.post ends u q) p × Addable p units.now (matrix_map map.old) }

@@ -133,7 +133,7 @@ impl<'a> Words<'a> {
         })
     }
 
-    // An off sheet with the units that the words from `first` on name.
+    // An off sheet with the units that the words from `first` on name. By numbers, since a fault tells that of its word.
     pub(crate) fn off_sheet(&self, heap: Global, first: usize) -> Result<Vec<u8>, Flaw> {
         let mut sheet = [0u8; 255];
         for i in first..self.0.len() {

@@ -109,7 +109,7 @@ impl UnitSet {
         self.least_from(c + 1)
     }
 
-    // The least member that is not below from.
+    // The least member that is not below from. By numbers, since that of its word is part of the member.
     pub(crate) fn least_from(&self, from: u8) -> Option<u8>
         ensures { Least (has self.now) from result }
     {
@@ -157,7 +157,8 @@ fn zeros() -> [u64; 4]
     [0; 4]
 }
 
-// Whether the word has a bit at the place.
+// Whether the word has a bit at the place. A place below 64 is asked for here and twice below; a type for it would be no
+// plainer than the remainder that is passed.
 fn bit_at(word: u64, place: u8) -> bool
     requires { place < 64 }
     ensures { result ≡ (word / 2 ^ place % 2 == 1) }

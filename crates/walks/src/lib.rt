@@ -1,5 +1,5 @@
 // Searches along the pairings of a map, written once for every map. They go level by level: from the units first seen
-// with n pairings to those first seen with one more.
+// with n pairings to those first seen with one more. The loops are `while`s, since each level is made from the one before.
 #![tactic(auto)]
 
 ghost use Rattle.std.specs.Prelude.{◌≡◌, ℕ, ◌≤◌, false, ◌||◌, IfSome, ◌==◌};

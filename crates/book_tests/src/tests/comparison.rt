@@ -3,7 +3,7 @@ ghost use Rattle.book.specs.Views.{Whole};
 ghost use Rattle.std.specs.Prelude.{◌≤◌};
 
 use crate::brute::BruteBook;
-use crate::changes::{Change, List, ask, enrol, put};
+use crate::changes::{Change, List, enrol, put};
 use crate::random::Random;
 use book::Book;
 use grid::Grid;
@@ -88,7 +88,7 @@ fn compare_list<S: Store>(
     let mut one = [200; 8];
     let mut other = [200; 8];
     assert_eq!(rt;
-        ask(book, list, u, &mut one[0..room]),
+        book.list(list, u, &mut one[0..room]),
         brute.ask(list, u, &mut other[0..room])
     );
     assert_eq!(rt; one, other);

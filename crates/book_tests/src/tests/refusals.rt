@@ -2,7 +2,7 @@
 ghost use Rattle.book.specs.Views.{Whole};
 
 use super::{Step, Told, labels, play, tells};
-use crate::changes::{Change, List, ask, enrol};
+use crate::changes::{Change, List, enrol};
 use book::Book;
 use grid::Grid;
 use maps::Store;
@@ -129,7 +129,7 @@ fn asks_list<S: Store>(rt: &impl Abort, book: &Book<S>, asked: &Asked) -> Result
 {
     let mut buffer = [77; 4];
     assert!(rt; asked.2 <= 4);
-    let answer = ask(book, asked.0, asked.1, &mut buffer[0..asked.2]);
+    let answer = book.list(asked.0, asked.1, &mut buffer[0..asked.2]);
     assert_eq!(rt; answer, asked.3);
     match answer {
         Ok(n) => {
