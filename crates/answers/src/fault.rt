@@ -53,7 +53,7 @@ impl From<Malformed> for Refusal {
 }
 
 impl LineFault {
-    // The number that is shown for the fault.
+    // The number that is shown for the fault. No discriminant, since variants carry the numbers of other faults.
     pub fn number(self) -> u8
         ensures { result ≡ line_number self }
     {

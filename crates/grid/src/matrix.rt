@@ -1,4 +1,4 @@
-// A map as bits: the units, and for each unit the set of its listeners and the set of its sources.
+// A map as bits, in fixed memory: the units, and for each unit the set of its listeners and the set of its sources.
 ghost use Rattle.grid.specs.Rows.{NoZero, FromStands, ToStands, Apart, TurnedRows};
 
 use units::UnitSet;

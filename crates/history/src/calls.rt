@@ -3,7 +3,7 @@ use labels::List;
 use places::Place;
 use plain::BookFault;
 
-// The units that are paired to a new unit, and those that it is paired to.
+// The units that are paired to a new unit, and those that it is paired to: two lists, each of a length of its own.
 #[derive(Drop)]
 pub struct Partners {
     pub sources: Vec<u8>,

@@ -12,7 +12,7 @@ use maps::{Map, Store};
 use plain::BookFault;
 use std::alloc::{AllocError, Global};
 
-// What was written from a place of the buffer on, or the cause of a refusal.
+// What was written from a place of the buffer on, or the cause of a refusal. A match, since the copy may want memory.
 fn written(
     heap: Global,
     told: Result<usize, BookFault>,

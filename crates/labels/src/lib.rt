@@ -14,7 +14,7 @@ mod ranked;
 pub use lists::{List, ShortBuffer};
 pub use ranked::{Ranked, cover};
 
-// A set of units for each unit.
+// A set of units for each unit, in fixed memory.
 #[derive(Clone, Copy)]
 pub struct Holders {
     sets: [UnitSet; 256],

@@ -55,7 +55,8 @@ impl<'a> Ranked<'a> {
         }
     }
 
-    // The list of u, the highest first. Tells how many they are; a buffer that is too short stays as it was.
+    // The list of u, the highest first. Tells how many they are; a buffer that is too short stays as it was. The caller lends
+    // the buffer, as it does wherever a list, a page or an answer is written: nothing below the programs allocates.
     pub fn list(&self, list: List, u: u8, buffer: &mut [u8]) -> Result<usize, ShortBuffer>
         ensures { (m : Map) → ExactOf m self.now → Listed (list_of list m self.now.order.now u) buffer.old result buffer.new }
     {

@@ -49,7 +49,7 @@ impl<'a> Ranked<'a> {
         self.first_shared(s, t)
     }
 
-    // All that hear u, which is one of them.
+    // All that hear u, which is one of them. This and the next are the two clauses of `reached`, by the names that callers use.
     pub fn hearers(&self, u: u8) -> UnitSet
         ensures { (m : Map) → KeptOf m self.now → T (m.unit u) → (v : ℕ) → has result v ≡ is_heard m u v }
     {

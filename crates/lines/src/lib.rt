@@ -124,6 +124,7 @@ pub fn parse(line: &[u8]) -> Result<Line<'_>, Malformed>
     let [letter, bytes @ ..] = line else {
         return Err(Malformed { place: 1 });
     };
+    // a match: the proof that the place fits its byte stands at the arm
     match parse_after(*letter, bytes) {
         Ok(said) => Ok(said),
         Err(place) => Err(Malformed { place: place as u8 }),

@@ -19,7 +19,7 @@ pub enum StoreFault {
 }
 
 impl StoreFault {
-    // The number that is shown for the fault.
+    // The number that is shown for the fault; shown numbers stand in one form for all faults, and not as discriminants.
     pub fn number(self) -> u8
         ensures { result ≡ store_number self }
     {

@@ -12,7 +12,7 @@ use arrayvec::ArrayVec;
 pub use fault::NameFault;
 use std::array;
 
-// The cards of all numbers. A blank one has no name.
+// The cards of all numbers, in fixed memory. A blank one has no name.
 #[derive(Clone, Drop)]
 pub struct Cards {
     cards: [Option<ArrayVec<u8, 16>>; 256],

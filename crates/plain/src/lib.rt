@@ -33,6 +33,7 @@ pub enum BookFault {
     Store(StoreFault),
 }
 
+// Written out: a derived one would not say what it gives.
 impl From<StoreFault> for BookFault {
     ghost from_gives = { λ e r. r ≡ Store e };
 
@@ -42,7 +43,7 @@ impl From<StoreFault> for BookFault {
 }
 
 impl BookFault {
-    // The number that is shown for the fault.
+    // The number that is shown for the fault. No discriminant, since one variant carries the number of another fault.
     pub fn number(self) -> u8
         ensures { result ≡ book_number self }
     {

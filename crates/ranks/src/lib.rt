@@ -14,7 +14,7 @@ use std::marker::Model;
 #[derive(Drop)]
 pub struct Ranks {
     order: ArrayVec<u8, 255>,
-    // the rank of each unit of the order
+    // the rank of each unit of the order, by its number, in fixed memory
     place: [Option<u8>; 256],
 }
 

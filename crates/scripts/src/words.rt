@@ -77,7 +77,7 @@ impl<'a> Words<'a> {
         self.get(i).ok_or(Flaw::At(i, Why::Word))
     }
 
-    // No word comes after the first n.
+    // No word comes after the first n. A match, since here it is `Some` that is refused.
     pub(crate) fn end(&self, n: usize) -> Result<(), Flaw> {
         match self.get(n) {
             Some(_) => Err(Flaw::At(n, Why::Rest)),
@@ -108,11 +108,9 @@ impl<'a> Words<'a> {
         if text.bytes().any(|b| b.is_ascii_uppercase()) {
             return Err(Flaw::At(i, Why::Bytes));
         }
-        match hex::decode(heap, text) {
-            Ok(bytes) => Ok(bytes),
-            Err(hex::FromHexError::OutOfMemory) => Err(Flaw::Memory(AllocError)),
-            Err(_) => Err(Flaw::At(i, Why::Bytes)),
-        }
+        let mut bytes = vec![in heap; 0u8; text.len() / 2]?;
+        hex::decode_to_slice(text, bytes.as_mut_slice()).map_err(|_| Flaw::At(i, Why::Bytes))?;
+        Ok(bytes)
     }
 
     // The numbers after a word that begins their list, to before a word; none where the list does not begin.
