@@ -18,6 +18,7 @@ use std::env;
 use std::io::{BufReader, Read};
 use std::time::{Duration, Instant};
 
+// The two lists of an enrolment have lengths of their own.
 #[derive(Drop)]
 enum Change {
     Enrol {

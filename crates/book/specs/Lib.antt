@@ -1,3 +1,4 @@
 pub mod Views
 pub mod Answers
+pub mod Changes
 pub mod Questions

@@ -2,16 +2,19 @@
 // what the plain book says; it is refused before anything is changed.
 #![tactic(auto)]
 
-ghost use Rattle.std.specs.Prelude.{◌≡◌, ℕ, true, false, not, ◌||◌, [], ◌∷◌, ◌++◌, length, Err};
+ghost use Rattle.std.specs.Prelude.{◌≡◌, ℕ, true, false, not, ◌||◌, [], ◌∷◌, ◌++◌, length};
 ghost use Rattle.units.specs.Has.{has};
 ghost use Rattle.theory.specs.Ranks.{Orders};
-ghost use Rattle.labels.specs.Listed.{list_of};
+ghost use Rattle.theory.specs.Maps.{Map};
+ghost use Rattle.labels.specs.Holding.{Exact};
+ghost use Rattle.labels.specs.Listed.{Listed, list_of};
 ghost use Rattle.mending.specs.Mended.{Mended};
 ghost use Rattle.plain.specs.Plain.{map_of, empty, hears};
 ghost use Rattle.plain.specs.Lists.{some, doubled};
 ghost use Rattle.plain.specs.Requests.{Hear, Enrol, Pair, Unpair, Drop, Rank, enrol_checks, partners as partner_checks, rank_checks, pair_checks, unpair_checks, first_cause, unknown, stands, verdict};
 ghost use Rattle.book.specs.Views.{plain_of, Whole, kept_list};
-ghost use Rattle.book.specs.Answers.{answered, ByChains, Lists, list_request, Applied, fault_of};
+ghost use Rattle.book.specs.Answers.{answered, ByChains, Lists, list_request, fault_of};
+ghost use Rattle.book.specs.Changes.{Changes};
 
 use grid::Matrix;
 use labels::{Labels, List, Ranked, ShortBuffer};
@@ -24,7 +27,8 @@ use ranks::Ranks;
 mod pages;
 mod questions;
 
-// That the three agree is what every call asks and promises, and no invariant of the type: a store's meaning is its trait's.
+// That the three agree is what every call asks and promises, and no invariant of the type: this is the project's rule, and a
+// store's meaning is its trait's.
 #[derive(Drop)]
 pub struct Book<S: Store> {
     store: S,
@@ -94,7 +98,15 @@ impl<S: Store> Book<S> {
         ensures kept { kept_list S.Map.meaning list self.now u ≡ list_of list (map_of (plain_of S.Map.meaning self.now)) (plain_of S.Map.meaning self.now).order u }
     {
         self.check_known(&[u])?;
-        fitted(self.ranked().list(list, u, buffer))
+        fitted(self.write_list(list, u, buffer))
+    }
+
+    // The list as the labels have it, which are those of the map.
+    #[tactic(auto, using(crate::proofs::Listing::by_order))]
+    fn write_list(&self, list: List, u: u8, buffer: &mut [u8]) -> Result<usize, ShortBuffer>
+        ensures { (m : Map) → Exact m self.now.ranks self.now.labels → Listed (list_of list m self.now.ranks u) buffer.old result buffer.new }
+    {
+        self.ranked().list(list, u, buffer)
     }
 
     // The units between which a change of a and b can alter labels: all that a hears, and all that hear b.
@@ -153,9 +165,7 @@ impl<S: Store> Book<S> {
     // Pairs a to b. Tells how many labels stand before or after, and not both.
     pub fn pair(&mut self, a: u8, b: u8) -> Result<u32, BookFault>
         requires { Whole S.Map.meaning self.old }
-        ensures applied { Applied S.Store.room (plain_of S.Map.meaning self.old) (Pair a b) result (plain_of S.Map.meaning self.new) }
-        ensures whole { Whole S.Map.meaning self.new }
-        ensures kept { (cause : BookFault) → result ≡ Err cause → self.new ≡ self.old }
+        ensures { Changes S.Map.meaning S.Store.room self.old (Pair a b) result self.new }
     {
         self.check_pair(a, b)?;
         let touched = self.touched(a, b);
@@ -166,9 +176,7 @@ impl<S: Store> Book<S> {
     // Takes the pairing of a to b away.
     pub fn unpair(&mut self, a: u8, b: u8) -> Result<u32, BookFault>
         requires { Whole S.Map.meaning self.old }
-        ensures applied { Applied S.Store.room (plain_of S.Map.meaning self.old) (Unpair a b) result (plain_of S.Map.meaning self.new) }
-        ensures whole { Whole S.Map.meaning self.new }
-        ensures kept { (cause : BookFault) → result ≡ Err cause → self.new ≡ self.old }
+        ensures { Changes S.Map.meaning S.Store.room self.old (Unpair a b) result self.new }
     {
         self.check_unpair(a, b)?;
         let touched = self.touched(a, b);
@@ -190,9 +198,7 @@ impl<S: Store> Book<S> {
     // Takes v out, with its pairings; lower units move up.
     pub fn drop_unit(&mut self, v: u8) -> Result<u32, BookFault>
         requires { Whole S.Map.meaning self.old }
-        ensures applied { Applied S.Store.room (plain_of S.Map.meaning self.old) (Drop v) result (plain_of S.Map.meaning self.new) }
-        ensures whole { Whole S.Map.meaning self.new }
-        ensures kept { (cause : BookFault) → result ≡ Err cause → self.new ≡ self.old }
+        ensures { Changes S.Map.meaning S.Store.room self.old (Drop v) result self.new }
     {
         self.check_known(&[v])?;
         let touched = self.touched(v, v);
@@ -204,9 +210,7 @@ impl<S: Store> Book<S> {
     // Takes v out of the order and puts it back at rank k; the others keep their order.
     pub fn rank(&mut self, v: u8, k: u8) -> Result<u32, BookFault>
         requires { Whole S.Map.meaning self.old }
-        ensures applied { Applied S.Store.room (plain_of S.Map.meaning self.old) (Rank v k) result (plain_of S.Map.meaning self.new) }
-        ensures whole { Whole S.Map.meaning self.new }
-        ensures kept { (cause : BookFault) → result ≡ Err cause → self.new ≡ self.old }
+        ensures { Changes S.Map.meaning S.Store.room self.old (Rank v k) result self.new }
     {
         self.check_rank(v, k)?;
         let touched = self.touched(v, v);
@@ -269,9 +273,7 @@ impl<S: Store> Book<S> {
         listeners: &[u8],
     ) -> Result<u32, BookFault>
         requires { Whole S.Map.meaning self.old }
-        ensures applied { Applied S.Store.room (plain_of S.Map.meaning self.old) (Enrol v k sources.now listeners.now) result (plain_of S.Map.meaning self.new) }
-        ensures whole { Whole S.Map.meaning self.new }
-        ensures kept { (cause : BookFault) → result ≡ Err cause → self.new ≡ self.old }
+        ensures { Changes S.Map.meaning S.Store.room self.old (Enrol v k sources.now listeners.now) result self.new }
     {
         let partners = Partners { sources, listeners };
         self.check_enrol(v, k, &partners)?;

@@ -38,7 +38,8 @@ impl<S: Store> Book<S> {
         Ok(reach(&self.store, s, t, sheet))
     }
 
-    // The first cause for which v could not be enrolled with the partners at any rank.
+    // The first cause for which v could not be enrolled with the partners at any rank. Its first two tests are those of an
+    // enrolment, in the order in which both lists of causes have them.
     fn check_place(&self, v: u8, partners: &Partners) -> Result<(), BookFault>
         requires { Whole S.Map.meaning self.now }
         ensures { result ≡ answered (first_cause (place_checks S.Store.room (plain_of S.Map.meaning self.now) v partners.now.sources.now partners.now.listeners.now)) tt }

@@ -229,15 +229,13 @@ impl BruteBook {
         }
     }
 
-    fn pair_sources(&mut self, v: u8, sources: &[u8]) {
-        for s in sources {
-            self.pairs.set(*s, v, true);
-        }
-    }
-
-    fn pair_listeners(&mut self, v: u8, listeners: &[u8]) {
-        for t in listeners {
-            self.pairs.set(v, *t, true);
+    // Pairs the ends that `ends` gives for each unit of the list.
+    fn pair_all<F: Fn(u8) -> (u8, u8)>(&mut self, units: &[u8], ends: F)
+        requires { F.IsAlwaysCallable ends }
+    {
+        for u in units {
+            let (a, b) = ends(*u);
+            self.pairs.set(a, b, true);
         }
     }
 
@@ -251,8 +249,8 @@ impl BruteBook {
                 listeners,
             } => {
                 self.rank_in(unit, rank);
-                self.pair_sources(unit, sources);
-                self.pair_listeners(unit, listeners);
+                self.pair_all(sources, |s| (s, unit));
+                self.pair_all(listeners, |t| (unit, t));
             }
             Change::Drop(v) => {
                 self.pairs.cut(v);

@@ -1,4 +1,5 @@
-// Which of the numbers 0 to 15 are related to which.
+// Which of the numbers 0 to 15 are related to which, in fixed memory. The loops here and in the tests go over such numbers, and
+// not along a slice; each step writes the table that the next one reads.
 ghost use Rattle.std.specs.Prelude.{◌<◌, ◌≤◌};
 
 #[derive(Clone, Copy)]

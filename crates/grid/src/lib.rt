@@ -147,7 +147,7 @@ impl Grid {
     }
 }
 
-// The questions of the matrix, each passed on by hand, as the language has no delegation.
+// The questions of the matrix, each passed on by hand: there is no plainer form.
 impl Map for Grid {
     ghost meaning = { grid_map };
 

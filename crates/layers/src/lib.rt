@@ -143,6 +143,7 @@ impl<M> Hiding<M> {
     }
 }
 
+// Listeners and sources are asked of the map below by their own questions, so that no layer turns it round for that.
 impl<M: Map> Map for Hiding<M> {
     ghost meaning = { λ h. hidden (has h.marks.set) (M.Map.meaning h.below) };
 

@@ -53,6 +53,7 @@ pub struct Malformed {
     pub place: u8,
 }
 
+// Written out: its `output` is an equation, which callers use.
 impl fmt::Display for Malformed {
     ghost output = { λ m. Some (codes "refused 12 L " ++ decimal m.place) };
 

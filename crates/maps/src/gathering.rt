@@ -5,8 +5,8 @@ ghost use Rattle.units.specs.Sets.{Least};
 
 use units::UnitSet;
 
-// The numbers that `least_above` gives from 0 on. A `while`: each is asked for above the one before, so there is nothing to
-// iterate over.
+// The numbers that `least_above` gives from 0 on. A `while`: each is asked for above the one before, and the library's
+// `successors` has no end that a proof could use.
 pub(crate) fn gathered<F: Fn(u8) -> Option<u8>>(least_above: F) -> UnitSet
     requires callable { F.IsAlwaysCallable least_above }
     requires rises { (c : ℕ) (r : Option ℕ) → F.post least_above c r → IfSome r (λ u. c < u) }

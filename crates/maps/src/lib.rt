@@ -72,7 +72,7 @@ pub trait Map {
     }
 }
 
-// A map that is lent is a map. Each question is passed on by hand, as the language has no delegation.
+// A map that is lent is a map. Each question is passed on by hand: there is no plainer form.
 impl<M: Map> Map for &M {
     ghost meaning = { λ m. M.Map.meaning m.now };
 

@@ -5,10 +5,10 @@ ghost use Rattle.std.specs.Prelude.{◌≡◌, ℕ, ◌&&◌, Some, MatchResult,
 ghost use Rattle.units.specs.Has.{has};
 ghost use Rattle.units.specs.Sets.{Least};
 ghost use Rattle.theory.specs.Maps.{with_unit, without_unit, without_pair, turned, hidden};
+ghost use Rattle.theory.specs.Chains.{FewestOrNone};
 ghost use Rattle.theory.specs.Counts.{pair_count};
 ghost use Rattle.theory.specs.Hearing.{is_heard};
 ghost use Rattle.maps.specs.Changes.{Done, take_cause, part_cause, room_for};
-ghost use Rattle.walks.specs.Levels.{Fewest};
 ghost use Rattle.grid.specs.Held.{grid_map};
 
 use grid::Grid;
@@ -66,7 +66,7 @@ pub fn sources_without(grid: Grid, v: u8, s: u8) -> Result<UnitSet, StoreFault>
 
 // The fewest pairings from s to t while the units of a set are hidden, over any map, which is lent.
 pub fn fewest_outside<M: Map>(m: &M, marks: &UnitSet, s: u8, t: u8) -> Option<u16>
-    ensures { Fewest (turned (hidden (has marks.now) (turned (M.Map.meaning m.now)))) s t result }
+    ensures { FewestOrNone (turned (hidden (has marks.now) (turned (M.Map.meaning m.now)))) s t result }
 {
     let pile = Turned::over(Hiding::without(Turned::over(m), *marks));
     fewest_pairings(&pile, s, t)
@@ -82,17 +82,17 @@ mod tests {
 
     // Puts the units from 1 to n into the store.
     fn put_to<S: Store>(s: &mut S, n: u8) -> Result<(), StoreFault> {
-        for u in 0..n {
-            s.put(u + 1)?;
+        for u in 1..=n {
+            s.put(u)?;
         }
         Ok(())
     }
 
     // Pairs a to every other unit from 1 to n, or to as many as there is room for.
     fn pair_to_all<S: Store>(s: &mut S, a: u8, n: u8) -> Result<(), StoreFault> {
-        for u in 0..n {
-            if u + 1 != a {
-                s.join(a, u + 1)?;
+        for u in 1..=n {
+            if u != a {
+                s.join(a, u)?;
             }
         }
         Ok(())
@@ -100,8 +100,8 @@ mod tests {
 
     // Pairs each unit from 1 to n to every other, as long as there is room.
     fn fill<S: Store>(s: &mut S, n: u8) -> Result<(), StoreFault> {
-        for u in 0..n {
-            pair_to_all(s, u + 1, n)?;
+        for u in 1..=n {
+            pair_to_all(s, u, n)?;
         }
         Ok(())
     }

@@ -2,7 +2,7 @@
 // units that the change can touch are found again, each by a walk, and the labels that come and go are counted.
 //
 // In-holders and out-holders are passed as two tables, since they change places for the turned map and one is lent to be
-// changed; a map and its order come from two owners, and a struct of both would be taken apart by each function.
+// changed; a map and its order come from two owners, and each function would read both out of a struct again.
 #![tactic(auto)]
 
 ghost use Rattle.std.specs.Prelude.{◌≡◌, ℕ, ◌+◌, ◌<◌, ◌≤◌, false, not, ◌&&◌, ◌||◌, length, take, if◌then◌else◌, ◌==◌, nat_eq, slice_index};

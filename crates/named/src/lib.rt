@@ -49,7 +49,7 @@ impl<S: Store> NamedBook<S> {
         }
     }
 
-    // Pairs the one to the other.
+    // Pairs the one to the other. This and the next two differ in the call that they put, whose kinds of answer differ too.
     fn pair(&mut self, names: TwoNames<'_>) -> Result<Told, LineFault>
         requires { Agreed S.Map.meaning self.old }
         ensures { CarriedOut S.Map.meaning S.Store.room self.old (Pair names.entry.source.now names.entry.listener.now) result self.new }

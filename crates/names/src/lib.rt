@@ -72,7 +72,7 @@ impl Cards {
         self.find(name).ok_or(NameFault::Unknown(place))
     }
 
-    // That no number has the name that begins at a place of a line.
+    // That no number has the name that begins at a place of a line. A match, since here it is `Some` that is refused.
     pub fn check_free(&self, name: &[u8], place: u8) -> Result<(), NameFault>
         ensures { result ≡ free_at place (unit_named (names_of self.now) name.now) }
     {

@@ -46,6 +46,7 @@ fn record_of(index: usize) -> Option<usize>
 }
 
 impl<'a> Formed<'a> {
+    // By a branch: a page is one that is formed only where that is known.
     pub(crate) fn of(page: &'a [u8]) -> Option<Formed<'a>>
         ensures { MatchOption result (has_form page.now ≡ false) (λ f. f ≡ page.now) }
     {

@@ -1,4 +1,5 @@
-// The bytes of a page, checked and read: the units in rank order, and for each the set of its listeners.
+// The bytes of a page, checked and read: the units in rank order, and for each the set of its listeners. Records are told by
+// their numbers, as the format counts them, and a chain goes on by the number that each record has; all in fixed memory.
 ghost use Rattle.std.specs.Prelude.{◌≡◌, ℕ, ◌+◌, ◌<◌, ◌≤◌, false, get_or, if◌then◌else◌, MatchOption, nat_eq, nat_le, slice_index_or};
 ghost use Rattle.units.specs.Has.{has, in_row};
 ghost use Rattle.theory.specs.Maps.{listed};

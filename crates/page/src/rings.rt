@@ -24,7 +24,7 @@ fn closes_ring<M: Map>(m: &M, b: u8) -> bool
     heard_from(m, b).intersects(&m.sources(b))
 }
 
-// Whether some unit is paired to one that it hears.
+// Whether some unit is paired to one that it hears. A `for`, since what is asked of a unit is no test of it alone.
 pub(crate) fn has_ring<M: Map>(m: &M) -> bool
     ensures { Ringed result (M.Map.meaning m.now) }
 {

@@ -1,5 +1,6 @@
 // The bytes of a page, written record by record. Each writer is told the place of its first record and that record's number, and
-// writes by places: of a page that is lent out in pieces a proof would know no more than its length.
+// writes by places: of a page that is lent out in pieces a proof would know no more than its length. A record tells whether
+// another follows, so the next listener is looked for before one is written.
 ghost use Rattle.std.specs.Prelude.{◌≡◌, ◌+◌, ◌*◌, ◌<◌, ◌≤◌, ◌++◌, length, take, if◌then◌else◌, nat_eq};
 ghost use Rattle.units.specs.Has.{has};
 ghost use Rattle.theory.specs.Lists.{sum};

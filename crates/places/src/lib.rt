@@ -93,7 +93,8 @@ fn place_at<M: Map>(m: &M, ranks: &Ranks, v: u8, k: u8) -> Place
     }
 }
 
-// The place with the smaller total, the first of equals. The library's min_by_key over a pair is no plainer.
+// The place with the smaller total, the first of equals. The definition compares from the lowest rank up, place by place, as
+// the loop below does; the library's `min_by_key` told by its keys would be no plainer.
 fn better(first: Place, second: Place) -> Place
     ensures { told_of result ≡ smaller (told_of first) (told_of second) }
 {

@@ -23,8 +23,8 @@ pub fn digits(n: u8) -> u8
     }
 }
 
-// How many bytes the first field has. That the fields are lawful is asked here and below: a line is an enum, and a struct
-// round it for that fact would stand in the way of each `match`.
+// How many bytes the first field has. That the fields are lawful is asked here and below: a line is an enum, and with a
+// struct round it for that fact each `match` would be longer.
 fn first_len(line: Line<'_>) -> u8
     requires { LawfulFields (fields (said line)) }
     ensures is { 4 + result ≡ place (said line.entry) 1 }

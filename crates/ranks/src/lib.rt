@@ -153,6 +153,7 @@ impl Ranks {
     }
 }
 
+// Written out, so that it says of the list that it is the same, and that it never fails.
 impl Clone for Ranks {
     ghost is_clone = { λ x y. y ≡ x };
 

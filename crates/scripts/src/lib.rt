@@ -20,7 +20,7 @@ pub enum ScriptFault {
     #[error("line {line}, place {place}: {why}")]
     Malformed { line: usize, place: usize, why: Why },
     #[error(transparent)]
-    Memory(AllocError),
+    Memory(#[from(alloc)] AllocError),
 }
 
 // A history: the page with which the book begins, where it begins with one; and the calls with the numbers of their lines.

@@ -182,7 +182,8 @@ fn without_bit(word: u64, place: u8) -> u64
     word & !(1 << place)
 }
 
-// The row whose words `op` makes of the words of two rows.
+// The row whose words `op` makes of the words of two rows. The four words are told one by one, here and below: a loop over
+// them would be no plainer.
 fn each_word<F: Fn(u64, u64) -> u64>(a: &[u64; 4], b: &[u64; 4], op: F) -> [u64; 4]
     requires { F.IsAlwaysCallable op }
     ensures { (i : ℕ) → i < 4 → F.post op (slice_index a.now i) (slice_index b.now i) (slice_index result i) × (slice_index b.now i < 2 ^ 64) }

@@ -24,6 +24,6 @@ returns g c =
       listed =
           list-told g.S.Store.room p (list_request c.args.list c.args.u (length c.args.buffer.now)) (list_of c.args.list (map_of p) p.order c.args.u) c.args.buffer.now c.args.u
           (list-checks g.S.Store.room p c.args.list c.args.u (length c.args.buffer.now)) _ c.fitted.result _ c.in_ok-check_known.ensures
-          (by_order (list_of c.args.list) _ _ _ _ c.ranked.result _ _ c.ranked.ensures.labels c.ranked.ensures.order c.list.ensures _ c.requires.exact) c.fitted.ensures;
+          (c.write_list.ensures _ c.requires.exact) c.fitted.ensures;
       kept = list-kept g.S.Map.meaning c.args.self.now c.args.list c.args.u c.requires;
     }
