@@ -148,19 +148,23 @@ impl Summary {
     }
 }
 
-// With the in-labels of u, and then its out-labels, each by rank.
-fn with_unit(book: &Book<Grid>, u: u8, so_far: Summary) -> Summary
+// With one list of u, by rank.
+fn with_list(book: &Book<Grid>, list: List, u: u8, so_far: Summary) -> Summary
     requires { Whole grid_map book.now }
 {
     let mut buffer = [0u8; 255];
-    let Ok(n) = book.list(List::InLabels, u, &mut buffer) else {
-        return so_far;
-    };
-    let more = so_far.with(&buffer[..n]);
-    let Ok(n) = book.list(List::OutLabels, u, &mut buffer) else {
-        return more;
-    };
-    more.with(&buffer[..n])
+    match book.list(list, u, &mut buffer) {
+        Ok(n) => so_far.with(&buffer[..n]),
+        Err(_) => so_far,
+    }
+}
+
+// With the in-labels of u, and then its out-labels.
+fn with_unit(book: &Book<Grid>, u: u8, so_far: Summary) -> Summary
+    requires { Whole grid_map book.now }
+{
+    let more = with_list(book, List::InLabels, u, so_far);
+    with_list(book, List::OutLabels, u, more)
 }
 
 // Over the units by number.

@@ -10,7 +10,7 @@ ghost use Rattle.labels.specs.Holding.{Exact};
 ghost use Rattle.labels.specs.Listed.{Listed, list_of};
 ghost use Rattle.mending.specs.Mended.{Mended};
 ghost use Rattle.plain.specs.Plain.{map_of, empty, hears};
-ghost use Rattle.plain.specs.Lists.{some, doubled};
+ghost use Rattle.plain.specs.Lists.{some};
 ghost use Rattle.plain.specs.Requests.{Hear, Enrol, Pair, Unpair, Drop, Rank, enrol_checks, partners as partner_checks, rank_checks, pair_checks, unpair_checks, first_cause, unknown, stands, verdict};
 ghost use Rattle.book.specs.Views.{plain_of, Whole, kept_list};
 ghost use Rattle.book.specs.Answers.{answered, ByChains, Lists, list_request, fault_of};

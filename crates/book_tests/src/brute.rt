@@ -126,7 +126,8 @@ impl BruteBook {
         list.iter().any(|u| !self.stands(*u))
     }
 
-    // Whether one of the sources hears one of the listeners.
+    // Whether one of the sources hears one of the listeners. The two lists go one by one here and in `Change`: the brute book
+    // shares no type with the book that it checks.
     fn any_ring(&self, sources: &[u8], listeners: &[u8]) -> bool {
         let heard = self.hearing();
         sources

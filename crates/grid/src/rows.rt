@@ -1,5 +1,5 @@
 // A set for each number from 0 to 255.
-ghost use Rattle.std.specs.Prelude.{◌≡◌, ℕ, false, not, ◌&&◌, ◌||◌, ◌==◌};
+ghost use Rattle.std.specs.Prelude.{◌≡◌, ℕ, not, ◌&&◌, ◌||◌, ◌==◌};
 ghost use Rattle.units.specs.Has.{has};
 ghost use Rattle.units.specs.Has.{in_row};
 
@@ -32,8 +32,8 @@ pub(crate) fn remove_at(rows: &mut [UnitSet; 256], x: u8, y: u8)
     rows[x as usize].remove(y);
 }
 
-// Takes y out of the set of each member of `among`. It differs from the next in what it does, not in a type or a number: a
-// closure for that would be no plainer.
+// Takes y out of the set of each member of `among`. It differs from the next in what it does, not in a type or a number, and so
+// do the two above: a closure for that would be no plainer.
 pub(crate) fn remove_among(rows: &mut [UnitSet; 256], among: &UnitSet, y: u8)
     ensures { (p q : ℕ) → in_row rows.new p q ≡ (not (has among.now p && q == y) && in_row rows.old p q) }
 {

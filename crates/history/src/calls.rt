@@ -3,7 +3,8 @@ use labels::List;
 use places::Place;
 use plain::BookFault;
 
-// The units that are paired to a new unit, and those that it is paired to: two lists, each of a length of its own.
+// The units that are paired to a new unit, and those that it is paired to: two lists, each of a length of its own. They are
+// owned, since a call is kept when its script is gone; the book is lent slices of them (`partners::Partners`).
 #[derive(Drop)]
 pub struct Partners {
     pub sources: Vec<u8>,

@@ -1,5 +1,5 @@
 // One call, put to a book.
-ghost use Rattle.std.specs.Prelude.{◌≡◌, ℕ, ◌+◌, ◌≤◌, length, IfOk};
+ghost use Rattle.std.specs.Prelude.{◌≡◌, ◌+◌, ◌≤◌, length, IfOk};
 ghost use Rattle.plain.specs.Requests.{Load, Enrol, Drop, Pair, Unpair, Rank, Hear, BestPlace, Reach, Save};
 ghost use Rattle.book.specs.Views.{plain_of, Whole};
 ghost use Rattle.book.specs.Answers.{list_request};

@@ -1,5 +1,5 @@
 // The labels and the holders of a unit as lists in the order of rank, written into a buffer that the caller lends.
-ghost use Rattle.std.specs.Prelude.{◌≡◌, ℕ, ◌≤◌, ◌++◌, filter, length, drop};
+ghost use Rattle.std.specs.Prelude.{◌≡◌, ◌≤◌, ◌++◌, filter, length, drop};
 ghost use Rattle.theory.specs.Maps.{Map};
 ghost use Rattle.labels.specs.Listed.{Listed, is_listed, list_of};
 ghost use Rattle.labels.specs.OfMaps.{ExactOf};

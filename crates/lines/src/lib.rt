@@ -125,7 +125,7 @@ pub fn parse(line: &[u8]) -> Result<Line<'_>, Malformed>
     let [letter, bytes @ ..] = line else {
         return Err(Malformed { place: 1 });
     };
-    // a match: the proof that the place fits its byte stands at the arm
+    // a match: the closure of a `map_err` would need a clause that the place fits its byte, and be no plainer
     match parse_after(*letter, bytes) {
         Ok(said) => Ok(said),
         Err(place) => Err(Malformed { place: place as u8 }),

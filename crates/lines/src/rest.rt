@@ -1,5 +1,5 @@
 // What is left of a line while it is read: fields are cut from its front.
-ghost use Rattle.std.specs.Prelude.{◌≡◌, ◌+◌, ◌^◌, ◌<◌, ◌≤◌, ◌&&◌, true, false, length, take, drop, if◌then◌else◌, Some, None, Ok, Err, ◌==◌, nat_le, slice_index};
+ghost use Rattle.std.specs.Prelude.{◌≡◌, ◌+◌, ◌^◌, ◌<◌, ◌≤◌, ◌&&◌, length, take, drop, if◌then◌else◌, Some, None, Ok, Err, ◌==◌, nat_le, slice_index};
 ghost use Rattle.grammar.specs.Grammar.{name_byte};
 ghost use Rattle.grammar.specs.Reading.{name_run, number_run, digit_run, value_after, digit, followed as after-digit, name_field, number_field, ended};
 
@@ -21,13 +21,13 @@ impl<'a> Rest<'a> {
             then Ok (drop 1 self.entry.bytes.now, self.entry.place + 1)
             else Err self.entry.place) }
     {
-        let [b' ', bytes @ ..] = self.bytes else {
-            return Err(self.place);
-        };
-        Ok(Rest {
-            bytes,
-            place: self.place + 1,
-        })
+        match self.bytes {
+            [b' ', bytes @ ..] => Ok(Rest {
+                bytes,
+                place: self.place + 1,
+            }),
+            _ => Err(self.place),
+        }
     }
 
     // The first n bytes, a field, and what follows them; no field is empty.

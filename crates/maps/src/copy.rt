@@ -22,7 +22,8 @@ pub fn copy_map<M: Map, S: Store>(from: &M, into: &mut S) -> Result<(), StoreFau
     Ok(())
 }
 
-// How many pairings a map has. The loops of this file go over all numbers, each a unit's, and not along a slice.
+// How many pairings a map has. The loops of this file go over all numbers, each a unit's, and not along a slice. The invariant
+// here carries the bound of the total along; a chain's `sum` would need it told before, and be no plainer.
 fn pairings_of<M: Map>(from: &M) -> u32
     ensures { result ≡ pair_count (M.Map.meaning from.now) }
 {

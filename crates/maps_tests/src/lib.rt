@@ -1,4 +1,5 @@
-// What maps, stores, layers and searches do together: small uses of them with contracts, and tests.
+// What maps, stores, layers and searches do together: small uses of them with contracts, and tests. The loops of the tests go
+// over the numbers of units, and not along a slice; each turn may be refused, and ends the loop then.
 #![tactic(auto)]
 
 ghost use Rattle.std.specs.Prelude.{◌≡◌, ℕ, ◌&&◌, Some, MatchResult, nat_eq};

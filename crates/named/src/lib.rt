@@ -7,7 +7,6 @@ ghost use Rattle.lines.specs.Lines.{said};
 ghost use Rattle.plain_named.specs.Replies.{line_reply, after};
 ghost use Rattle.answers.specs.declared.fault.Refusal.{Refusal as Refused};
 ghost use Rattle.grammar.specs.Grammar.{IsName, LawfulFields, fields, Enrol, Drop, Pair, Unpair, Rank, Hear};
-ghost use Rattle.names.specs.Cards.{names_of};
 ghost use Rattle.plain_named.specs.Named.{nobody};
 ghost use Rattle.named.specs.Views.{named_of, Agreed, CarriedOut};
 ghost use Rattle.plain_named.specs.Calls.{Answered, ToldByChains};

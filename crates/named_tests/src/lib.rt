@@ -1,5 +1,5 @@
 // Tests of the named book: a store filled to its capacity by lines, and the buffer of the line call. What a test plays stands
-// here.
+// here. Its loops write a line a turn, which may want memory: a chain that can fail would be no plainer.
 #![tactic(auto)]
 
 use std::alloc::{AllocError, Global};

@@ -1,10 +1,9 @@
 // The saved page of a book: the bytes are checked and read as ranks and a map, and ranks and a map are written as bytes.
 #![tactic(auto)]
 
-ghost use Rattle.std.specs.Prelude.{◌≡◌, ℕ, false};
+ghost use Rattle.std.specs.Prelude.{◌≡◌, ℕ};
 ghost use Rattle.units.specs.Has.{has, in_row};
 ghost use Rattle.theory.specs.Maps.{listed};
-ghost use Rattle.plain.specs.Lists.{some};
 ghost use Rattle.plain.specs.Pages.{page_book};
 ghost use Rattle.page_laws.specs.Parts.{Parts};
 ghost use Rattle.page.specs.Reads.{Reads};

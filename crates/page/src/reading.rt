@@ -103,9 +103,5 @@ pub(crate) fn read_rows(ranked: &Ranked<'_>) -> Option<[UnitSet; 256]>
         let row = follow(ranked, i, &mut seen)?;
         write_row(&mut rows, page.unit(i), row);
     }
-    if all_seen(page, &seen) {
-        Some(rows)
-    } else {
-        None
-    }
+    all_seen(page, &seen).then_some(rows)
 }

@@ -2,9 +2,8 @@
 // nothing changes.
 #![tactic(auto)]
 
-ghost use Rattle.std.specs.Prelude.{◌≡◌, ℕ, ◌+◌, ◌<◌, ◌≤◌, false, T, ◌≢◌, length};
-ghost use Rattle.theory.specs.Maps.{listed, enrolled};
-ghost use Rattle.theory.specs.Chains.{On};
+ghost use Rattle.std.specs.Prelude.{◌≡◌, ℕ, ◌+◌, ◌<◌, ◌≤◌, length};
+ghost use Rattle.theory.specs.Maps.{enrolled};
 ghost use Rattle.theory.specs.Counts.{count};
 ghost use Rattle.theory.specs.Ranks.{inserted, Orders};
 ghost use Rattle.theory.specs.Lists.{total};
@@ -68,7 +67,8 @@ fn enrolled_copy<M: Map>(m: &M, v: u8, partners: &Partners) -> Matrix
     map
 }
 
-// The total of labels of the map, in the order with v put in after its first k units.
+// The total of labels of the map, in the order with v put in after its first k units. The map, the ranks and the new unit are
+// those of three owners, so no struct of this crate holds them together.
 fn total_at<M: Map>(m: &M, ranks: &Ranks, v: u8, k: u8) -> u32
     requires new { Triable (M.Map.meaning m.now) v ranks.now }
     requires within { k ≤ length ranks.now }

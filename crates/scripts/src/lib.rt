@@ -196,7 +196,8 @@ impl Script {
     }
 }
 
-// The history that a text says.
+// The history that a text says. Each flaw is turned by hand: the clause names the line and the place of the fault, and a
+// derived `From` has no contract that could.
 pub fn read(heap: Global, text: &str) -> Result<Script, ScriptFault>
     ensures { IfErr result (Within text.now) }
 {

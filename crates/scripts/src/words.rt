@@ -1,5 +1,5 @@
 // The words of a line, and what they say.
-ghost use Rattle.std.specs.Prelude.{◌≡◌, ◌+◌, ◌≤◌, length};
+ghost use Rattle.std.specs.Prelude.{◌+◌, ◌≤◌, length};
 
 use history::Partners;
 use std::alloc::{AllocError, Global};

@@ -2,7 +2,7 @@
 // writes its marks on that sheet, and a guard over it takes them off again, whatever way the search ends.
 #![tactic(auto)]
 
-ghost use Rattle.std.specs.Prelude.{◌≡◌, ℕ, ◌≤◌, false, not, ◌&&◌, ◌||◌, length, IfSome, ◌==◌, nat_lt};
+ghost use Rattle.std.specs.Prelude.{◌≡◌, ℕ, ◌≤◌, not, ◌&&◌, ◌||◌, length, IfSome, ◌==◌, nat_lt};
 ghost use Rattle.units.specs.Has.{has};
 ghost use Rattle.theory.specs.Maps.{hidden};
 ghost use Rattle.theory.specs.Chains.{FewestOrNone};

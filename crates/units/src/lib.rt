@@ -2,7 +2,7 @@
 // speaks of membership alone.
 #![tactic(auto)]
 
-ghost use Rattle.std.specs.Prelude.{◌≡◌, ℕ, ◌+◌, ◌/◌, ◌%◌, ◌^◌, ◌<◌, ◌≤◌, false, not, ◌&&◌, ◌||◌, replicate, slice_index, IfSome, ◌==◌, bit_and, bit_or, bit_xor, count_ones};
+ghost use Rattle.std.specs.Prelude.{◌≡◌, ℕ, ◌+◌, ◌/◌, ◌%◌, ◌^◌, ◌<◌, ◌≤◌, false, not, ◌&&◌, ◌||◌, replicate, slice_index, IfSome, ◌==◌, bit_or, count_ones};
 ghost use Rattle.std.specs.Bool.{xor};
 ghost use Rattle.theory.specs.Counts.{count};
 ghost use Rattle.units.specs.Bit.{bit, joined, lacking};

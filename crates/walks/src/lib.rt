@@ -1,5 +1,6 @@
 // Searches along the pairings of a map, written once for every map. They go level by level: from the units first seen
-// with n pairings to those first seen with one more. The loops are `while`s, since each level is made from the one before.
+// with n pairings to those first seen with one more. The loops are `while`s, since each level is made from the one before,
+// and the library's `successors` has no end that a proof could use.
 #![tactic(auto)]
 
 ghost use Rattle.std.specs.Prelude.{◌≡◌, ℕ, ◌≤◌, false, ◌||◌, IfSome, ◌==◌};

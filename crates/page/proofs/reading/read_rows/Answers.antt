@@ -1,9 +1,10 @@
-use Rattle.std.proofs.Common.{◌≡◌, ℕ, ◌<◌, ◌≤◌, Bool, true, false, cond, eqb, List, sym, ap, ◌∙◌, subst, arith}
+use Rattle.std.proofs.Common.{◌≡◌, ℕ, ◌<◌, ◌≤◌, Bool, true, false, cond, eqb, List, MatchOption, refl, sym, ap, ◌∙◌, subst, arith}
+use Rattle.std.specs.Bool.{then_some}
 use Rattle.units.specs.Has.{has, in_row}
 use Rattle.theory.specs.Chains.{On}
 use Rattle.theory.specs.Ranks.{Once}
-use Rattle.plain.specs.Pages.{unit_in, unit_count, page_units}
-use Rattle.page_laws.specs.Parts.{Followed}
+use Rattle.plain.specs.Pages.{unit_in, unit_count, page_units, page_book}
+use Rattle.page_laws.specs.Parts.{Parts, Followed}
 use Rattle.page_laws.specs.Pairs.{paired_by}
 use Rattle.page_laws.proofs.Rows.{paired-more, paired-all, followed-none, followed-all, not-reached}
 use Rattle.page.proofs.reading.read_rows.Goals as goal
@@ -29,16 +30,20 @@ loop-i-preserved c =
 last : (page : List ℕ) (seen : List Bool) (i n : ℕ) → n ≡ unit_count page → i ≤ n → n ≤ i → Followed page i seen → Followed page (unit_count page) seen
 last page seen i n is a b f = let e : i ≡ unit_count page = omega arith in subst (λ (n : ℕ). Followed page n seen) e f
 
-pub returns-else-all_seen : goal.returns-else-all_seen
-returns-else-all_seen c =
-    not-reached c.args.ranked.now.page c.loop-i.seen (last c.args.ranked.now.page c.loop-i.seen c.loop-i.i c.units-i-end.result c.units-i-end.ensures.is c.loop-i.auto.i-end c.loop-i-test.false c.loop-i.invariant.0) (sym c.all_seen.ensures ∙ c.if-all_seen.false)
+told : {A : Type 0} (N : Type 0) (S : A → Type 0) (t : Bool) (x : A) → (t ≡ false → N) → (t ≡ true → S x) → MatchOption (then_some t x) N S
+told N S true x none some = some refl
+told N S false x none some = none refl
 
-pub returns-then-all_seen : goal.returns-then-all_seen
-returns-then-all_seen c =
+pub returns : goal.returns
+returns c =
     let page = c.args.ranked.now.page in
     let low = λ (u : ℕ) (o : On u (page_units page)). c.lawful.ensures.low u (subst (On u) (sym c.args.ranked.now.units) o) in
-    let here : c.loop-i.i ≡ unit_count page = let a = c.loop-i.auto.i-end in let b = c.loop-i-test.false in let n = c.units-i-end.ensures.is in omega arith in (
-      followed-all page c.loop-i.seen c.units-i-end.ensures.form low (subst Once c.args.ranked.now.units c.lawful.ensures.once)
-          (last page c.loop-i.seen c.loop-i.i c.units-i-end.result c.units-i-end.ensures.is c.loop-i.auto.i-end c.loop-i-test.false c.loop-i.invariant.0) (sym c.all_seen.ensures ∙ c.if-all_seen.true),
+    let here : c.loop-i.i ≡ unit_count page = let a = c.loop-i.auto.i-end in let b = c.loop-i-test.false in let n = c.units-i-end.ensures.is in omega arith in
+    let done = last page c.loop-i.seen c.loop-i.i c.units-i-end.result c.units-i-end.ensures.is c.loop-i.auto.i-end c.loop-i-test.false c.loop-i.invariant.0 in
+    subst (λ r. MatchOption r (Parts page → ⊥) (λ rows. Parts page × ((a b : ℕ) → in_row rows a b ≡ (page_book page).pair a b))) (sym c.then_some.ensures)
+    (told _ _ c.all_seen.result c.loop-i.rows
+    (λ e. not-reached page c.loop-i.seen done (sym c.all_seen.ensures ∙ e))
+    (λ e. (
+      followed-all page c.loop-i.seen c.units-i-end.ensures.form low (subst Once c.args.ranked.now.units c.lawful.ensures.once) done (sym c.all_seen.ensures ∙ e),
       λ a b. c.loop-i.invariant.1 a b ∙ ap (λ (n : ℕ). paired_by page n a b) here ∙ sym (paired-all page a b),
-    )
+    )))
