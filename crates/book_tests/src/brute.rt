@@ -5,7 +5,7 @@ use crate::changes::{Change, List};
 use crate::relation::Relation;
 use plain::BookFault;
 
-// A unit that does not stand has no rank.
+// A rank for each number, in fixed memory as in the book. A unit that does not stand has none.
 #[derive(Clone, Copy)]
 pub struct BruteBook {
     ranks: [Option<u8>; 16],
@@ -93,7 +93,8 @@ impl BruteBook {
         (0..16u8).find(|u| self.rank_of(*u) == Some(rank))
     }
 
-    // Writes a list of u from the buffer's start, in the order of rank, and tells its length.
+    // Writes a list of u from the buffer's start, in the order of rank, and tells its length; the caller lends the buffer, as it
+    // does to the book.
     pub fn ask(&self, list: List, u: u8, buffer: &mut [u8]) -> Result<usize, BookFault> {
         if !self.stands(u) {
             return Err(BookFault::Unknown);
