@@ -34,6 +34,7 @@ pub(crate) fn remove_at(rows: &mut [UnitSet; 256], x: u8, y: u8)
 
 // Takes y out of the set of each member of `among`. It differs from the next in what it does, not in a type or a number, and so
 // do the two above: a closure for that would be no plainer.
+#[tactic(auto, using(crate::proofs::Removing::none_removed, crate::proofs::Removing::more_removed))]
 pub(crate) fn remove_among(rows: &mut [UnitSet; 256], among: &UnitSet, y: u8)
     ensures { (p q : ℕ) → in_row rows.new p q ≡ (not (has among.now p && q == y) && in_row rows.old p q) }
 {

@@ -51,6 +51,11 @@ pub(crate) fn place_of(line: &str, word: usize) -> usize
     }
 }
 
+// Whether the byte is a hexadecimal digit and no capital.
+fn is_digit(b: u8) -> bool {
+    matches!(b, b'0'..=b'9' | b'a'..=b'f')
+}
+
 // The words of a line, one space between.
 #[derive(Drop)]
 pub(crate) struct Words<'a>(Vec<&'a str>);
@@ -105,7 +110,8 @@ impl<'a> Words<'a> {
         if text == "-" {
             return Ok(Vec::new(heap));
         }
-        if text.bytes().any(|b| b.is_ascii_uppercase()) {
+        // before memory is asked for: what is refused takes none
+        if text.len() % 2 != 0 || !text.bytes().all(is_digit) {
             return Err(Flaw::At(i, Why::Bytes));
         }
         let mut bytes = vec![in heap; 0u8; text.len() / 2]?;

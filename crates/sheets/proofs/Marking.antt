@@ -1,6 +1,7 @@
 -- The units of a set marked one after another: the mark of one more unit.
-use Rattle.std.proofs.Common.{◌≡◌, ℕ, ◌+◌, ◌-◌, ◌%◌, ◌<◌, ◌≤◌, Bool, true, false, ◌&&◌, ◌||◌, leb, ◌≢◌, ◌⊎◌, List, [], ◌∷◌, ◌++◌, length, get_or, set, sym, ap, ◌∙◌, inl, inr, arith, get_or-set_other, get_or-set_same}
+use Rattle.std.proofs.Common.{◌≡◌, ℕ, ◌+◌, ◌-◌, ◌%◌, ◌<◌, ◌≤◌, Bool, true, false, not, ◌&&◌, ◌||◌, eqb, leb, ◌≢◌, ◌⊎◌, List, [], ◌∷◌, ◌++◌, length, get_or, set, sym, refl, ap, ◌∙◌, inl, inr, arith, get_or-set_other, get_or-set_same}
 use Rattle.std.proofs.lemmas.Bool.{both_ways, cases_eq, cases_lt, eq-eqb, ne_eqb, le-leb, lt-leb, and_left, and_from, or_left, or_right}
+use Rattle.std.proofs.lemmas.Bool.Decides.{nat_tests}
 use Rattle.theory.specs.Maps.{listed}
 use Rattle.theory.proofs.Distinct.{listed-more}
 use Rattle.sheets.specs.Sheets.{wiped, marked}
@@ -40,3 +41,31 @@ module _ (entry sheet : List ℕ) (us : List ℕ) (u : ℕ) (low : 1 ≤ u) (hig
 -- a member is no zero, where the set has none
 pub above-zero : (f : ℕ → Bool) → f 0 ≡ false → (u : ℕ) → f u ≡ true → 1 ≤ u
 above-zero f none u on = elim (cases_eq u 0) [ inl e ↦ absurd (both_ways _ none (ap f (sym e) ∙ on)) | inr ne ↦ omega (arith, ne) ]
+
+-- the units on the list that are marked are out of the set, and then u, where it is marked
+module _ (f rest mark : ℕ → Bool) (us : List ℕ) (u : ℕ) (done : (k : ℕ) → rest k ≡ (f k && not (listed k us && mark k))) where
+  pub unmarked-more : mark u ≡ false → (k : ℕ) → rest k ≡ (f k && not (listed k (us ++ u ∷ []) && mark k))
+  unmarked-more off k =
+      let more = listed-more k us u in
+      let before = done k in
+      elim (cases_eq k u) [
+        | inl e ↦ let same : mark k ≡ false = ap mark e ∙ off in grind (arith, nat_tests)
+        | inr ne ↦ let apart = ne_eqb k u ne in grind (arith, nat_tests)
+      ]
+
+  pub taken-more : mark u ≡ true → (k : ℕ) → (not (eqb k u) && rest k) ≡ (f k && not (listed k (us ++ u ∷ []) && mark k))
+  taken-more on k =
+      let more = listed-more k us u in
+      let before = done k in
+      elim (cases_eq k u) [
+        | inl e ↦
+            let same : mark k ≡ true = ap mark e ∙ on in
+            let here = eq-eqb k u e in
+            grind (arith, nat_tests)
+        | inr ne ↦ let apart = ne_eqb k u ne in grind (arith, nat_tests)
+      ]
+
+-- out of a set are its own marked units
+pub of-members : (a b : Bool) → (a && not (a && b)) ≡ (a && not b)
+of-members true b = refl
+of-members false b = refl

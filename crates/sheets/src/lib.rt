@@ -39,15 +39,23 @@ impl Drop for SheetMarks<'_> {
     }
 }
 
+// Whether the byte of the unit u is marked.
+fn is_marked(sheet: &[u8], u: u8) -> bool
+    requires { length sheet.now ≡ 255 }
+    ensures { result ≡ marked sheet.now u }
+{
+    u >= 1 && sheet[u as usize - 1] >= 2
+}
+
 // The units of the set that are not marked on the sheet.
 fn unmarked_of(sheet: &[u8], set: &UnitSet) -> UnitSet
     requires { length sheet.now ≡ 255 }
     ensures { (k : ℕ) → has result k ≡ (has set.now k && not (marked sheet.now k)) }
 {
     let mut rest = *set;
-    for (i, byte) in sheet.iter().enumerate() {
-        if *byte >= 2 {
-            rest.remove(i as u8 + 1);
+    for u in set.iter() {
+        if is_marked(sheet, u) {
+            rest.remove(u);
         }
     }
     rest
