@@ -6,11 +6,11 @@ use Rattle.std.proofs.lemmas.Slice.Eq.{bytes_eq-Decides}
 use Rattle.names.specs.Names.{Names, is_name, named_from, unit_named}
 
 -- the name is exactly this one
-is-name-true : (o : Option (List ℕ)) (name : List ℕ) → is_name o name ≡ true → o ≡ Some name
+pub is-name-true : (o : Option (List ℕ)) (name : List ℕ) → is_name o name ≡ true → o ≡ Some name
 is-name-true None name e = absurd (false≢true e)
 is-name-true (Some own) name e = ap Some ((bytes_eq-Decides own name).0 e)
 
-is-name-same : (o : Option (List ℕ)) (name : List ℕ) → o ≡ Some name → is_name o name ≡ true
+pub is-name-same : (o : Option (List ℕ)) (name : List ℕ) → o ≡ Some name → is_name o name ≡ true
 is-name-same o name e = ap (λ x. is_name x name) e ∙ (bytes_eq-Decides name name).1 refl
 
 -- the first of so many numbers whose name it is

@@ -7,21 +7,21 @@ ghost use Rattle.names.specs.Names.{nameless, renamed, is_name, unit_named, foun
 ghost use Rattle.names.specs.Cards.{names_of};
 
 mod fault;
+mod name;
 
-use arrayvec::ArrayVec;
 pub use fault::NameFault;
-use std::array;
+use name::Name;
 
-// The cards of all numbers, in fixed memory. A blank one has no name.
-#[derive(Clone, Drop)]
+// The cards of all numbers. A blank one has no name.
+#[derive(Clone, Copy)]
 pub struct Cards {
-    cards: [Option<ArrayVec<u8, 16>>; 256],
+    cards: [Option<Name>; 256],
 }
 
-fn blank_cards() -> [Option<ArrayVec<u8, 16>>; 256]
+fn blank_cards() -> [Option<Name>; 256]
     ensures { (u : ℕ) → slice_index_or result u None ≡ None }
 {
-    array::from_fn(|_| None)
+    [None; 256]
 }
 
 impl Cards {
@@ -39,7 +39,7 @@ impl Cards {
         requires { length name.now ≤ 16 }
         ensures { names_of self.new ≡ renamed u (Some name.now) (names_of self.old) }
     {
-        self.cards[usize::from(u)] = Some(ArrayVec::try_from(name).unwrap());
+        self.cards[usize::from(u)] = Some(Name::of(name));
     }
 
     // Makes the card of u blank.
@@ -54,7 +54,7 @@ impl Cards {
         ensures { result ≡ is_name (names_of self.now u) name.now }
     {
         let card = &self.cards[usize::from(u)];
-        card.as_ref().is_some_and(|own| own.as_slice() == name)
+        card.as_ref().is_some_and(|own| own.is(name))
     }
 
     // The number whose card has the name, if there is one.
