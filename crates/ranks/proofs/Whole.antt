@@ -21,6 +21,9 @@ pub inserted-last : (v : ℕ) (xs : List ℕ) → inserted (length xs) v xs ≡ 
 inserted-last v [] = refl
 inserted-last v (x ∷ xs) = ap (λ l. x ∷ l) (inserted-last v xs)
 
+pub inserted_after : (k v : ℕ) (xs : List ℕ) → k ≡ length xs → inserted k v xs ≡ xs ++ v ∷ []
+inserted_after k v xs all = ap (λ j. inserted j v xs) all ∙ inserted-last v xs
+
 -- what stands at k is taken out
 pub removed-is : (k : ℕ) (xs : List ℕ) → Once xs → k < length xs → removed (get_or xs k 0) xs ≡ take k xs ++ drop (suc k) xs
 removed-is k [] once h = absurd (omega arith)
@@ -120,6 +123,12 @@ found_more xs v u far = go (cases_eq u v) (cases_Bool (listed u xs))
         let off : listed u all ≡ false = listed-from-off u all (λ o. ⊎_elim ne (off-from-listed u xs f) (on.0 o)) in
         cond-false (listed u all) (Some (rank_in all u)) None off ∙ sym (cond-false (listed u xs) (Some (rank_in xs u)) None f)
         ∙ sym (cond-false (eqb u v) (Some (length xs + 1)) (rank_found xs u) (ne_eqb u v ne))
+
+-- every place of an array of zeros reads 0, and so does what lies past it
+pub zeros : (n i : ℕ) → get_or {A = ℕ} (replicate n 0) i 0 ≡ 0
+zeros zero i = refl
+zeros (suc n) zero = refl
+zeros (suc n) (suc i) = zeros n i
 
 -- no unit has a rank where no order is
 pub nones : (n u : ℕ) → get_or {A = Option ℕ} (replicate n None) u None ≡ None

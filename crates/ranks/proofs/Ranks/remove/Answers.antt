@@ -1,37 +1,76 @@
--- The unit stands at its rank, and the order without it stays lawful.
-use Rattle.std.proofs.Common.{◌≡◌, ℕ, List, Option, Some, sym, ap, ◌∙◌, subst, arith}
-use Rattle.theory.specs.Ranks.{Once, removed}
-use Rattle.ranks.specs.Orders.{Lawful, rank_found}
-use Rattle.ranks.proofs.Whole.{Stands, stands, remove_lawful, not_found}
+-- The unit stands at its rank, and the ranks are numbered anew from there on.
+use Rattle.std.proofs.Common.{◌≡◌, take, Some, sym, ap, ◌∙◌, arith}
+use Rattle.theory.specs.Ranks.{removed}
+use Rattle.ranks.specs.Orders.{rank_found}
+use Rattle.ranks.proofs.Whole.{not_found}
+use Rattle.ranks.proofs.Changes.{remove-low, remove-within, remove-is, remove-lawful, remove-before, remove-kept}
 use Rattle.ranks.proofs.Ranks.remove.Goals as goal
 
--- the rank that the table tells of a unit is its rank in the order
-told : (order now : List ℕ) (u rank : ℕ) (answer : Option ℕ) → Lawful order → order ≡ now → answer ≡ rank_found now u → answer ≡ Some rank → Stands order u rank
-told order now u rank answer law view is some = stands order u rank law.once (ap (λ l. rank_found l u) view ∙ sym is ∙ some)
-
 pub overflow_sub-rank : goal.overflow_sub-rank
-overflow_sub-rank c = (told _ _ c.args.u c.in-Some.rank _ c.self.invariant.lawful c.self.view_is c.rank_of.ensures c.in-Some.is).low
+overflow_sub-rank c =
+    let s = c.self.inside in
+    let u = c.args.u in
+    let rank = c.in-Some.rank in
+    let there : rank_found (take s.n s.order) u ≡ Some rank = ap (λ l. rank_found l u) c.self.view_is ∙ sym c.rank_of.ensures ∙ c.in-Some.is in
+    remove-low s.order s.n s.place c.self.invariant u rank there
 
-pub remove-requires : goal.remove-requires
-remove-requires c = (omega arith, (told _ _ c.args.u c.in-Some.rank _ c.self.invariant.lawful c.self.view_is c.rank_of.ensures c.in-Some.is).within)
+pub take_out-requires : goal.take_out-requires
+take_out-requires c =
+    let s = c.self.inside in
+    let u = c.args.u in
+    let rank = c.in-Some.rank in
+    let there : rank_found (take s.n s.order) u ≡ Some rank = ap (λ l. rank_found l u) c.self.view_is ∙ sym c.rank_of.ensures ∙ c.in-Some.is in
+    record { within = remove-within s.order s.n s.place c.self.invariant u rank there }
 
-pub ranks_of-self-inside-requires-clause-once : goal.ranks_of-self-inside-requires-clause-once
-ranks_of-self-inside-requires-clause-once c =
-    let there = told _ _ c.args.u c.in-Some.rank _ c.self.invariant.lawful c.self.view_is c.rank_of.ensures c.in-Some.is in
-    subst Once (sym (c.deref.ensures.0 ∙ c.remove.ensures.items ∙ there.taken)) (remove_lawful c.args.u c.self.inside.order.items c.self.invariant.lawful).once
+pub renumber-requires-clause-within : goal.renumber-requires-clause-within
+renumber-requires-clause-within c =
+    let s = c.self.inside in
+    let u = c.args.u in
+    let rank = c.in-Some.rank in
+    let there : rank_found (take s.n s.order) u ≡ Some rank = ap (λ l. rank_found l u) c.self.view_is ∙ sym c.rank_of.ensures ∙ c.in-Some.is in
+    let put = c.take_out.ensures in
+    let new = c.take_out.new.order in
+    omega (arith, put.count, remove-within s.order s.n s.place c.self.invariant u rank there)
+
+pub renumber-requires-clause-once : goal.renumber-requires-clause-once
+renumber-requires-clause-once c =
+    let s = c.self.inside in
+    let u = c.args.u in
+    let rank = c.in-Some.rank in
+    let there : rank_found (take s.n s.order) u ≡ Some rank = ap (λ l. rank_found l u) c.self.view_is ∙ sym c.rank_of.ensures ∙ c.in-Some.is in
+    let put = c.take_out.ensures in
+    let new = c.take_out.new.order in
+    (remove-lawful s.order s.n s.place c.self.invariant u rank there new c.take_out.new.n put.count put.long put.above put.below).once
+
+pub renumber-requires-clause-before : goal.renumber-requires-clause-before
+renumber-requires-clause-before c =
+    let s = c.self.inside in
+    let u = c.args.u in
+    let rank = c.in-Some.rank in
+    let there : rank_found (take s.n s.order) u ≡ Some rank = ap (λ l. rank_found l u) c.self.view_is ∙ sym c.rank_of.ensures ∙ c.in-Some.is in
+    let put = c.take_out.ensures in
+    let new = c.take_out.new.order in
+    remove-before s.order s.n s.place c.self.invariant u rank there new c.take_out.new.n put.count put.long put.above put.below
 
 pub invariant_of-self : goal.invariant_of-self
 invariant_of-self c =
-    let there = told _ _ c.args.u c.in-Some.rank _ c.self.invariant.lawful c.self.view_is c.rank_of.ensures c.in-Some.is in
-    record {
-      lawful = subst Lawful (sym (c.remove.ensures.items ∙ there.taken)) (remove_lawful c.args.u c.self.inside.order.items c.self.invariant.lawful);
-      ranked = λ u. c.ranks_of-self-inside.ensures u ∙ ap (λ l. rank_found l u) c.deref.ensures.0;
-    }
+    let s = c.self.inside in
+    let u = c.args.u in
+    let rank = c.in-Some.rank in
+    let there : rank_found (take s.n s.order) u ≡ Some rank = ap (λ l. rank_found l u) c.self.view_is ∙ sym c.rank_of.ensures ∙ c.in-Some.is in
+    let put = c.take_out.ensures in
+    let new = c.take_out.new.order in
+    remove-kept s.order s.n s.place c.self.invariant u rank there new c.take_out.new.n put.count put.long put.above put.below (omega arith) c.renumber.new.place c.renumber.ensures.long put.last put.spare c.renumber.ensures.numbered c.renumber.ensures.kept
 
 pub returns-in-Some : goal.returns-in-Some
 returns-in-Some c =
-    let there = told _ _ c.args.u c.in-Some.rank _ c.self.invariant.lawful c.self.view_is c.rank_of.ensures c.in-Some.is in
-    c.remove.ensures.items ∙ there.taken ∙ ap (removed c.args.u) c.self.view_is
+    let s = c.self.inside in
+    let u = c.args.u in
+    let rank = c.in-Some.rank in
+    let there : rank_found (take s.n s.order) u ≡ Some rank = ap (λ l. rank_found l u) c.self.view_is ∙ sym c.rank_of.ensures ∙ c.in-Some.is in
+    let put = c.take_out.ensures in
+    let new = c.take_out.new.order in
+    remove-is s.order s.n s.place c.self.invariant u rank there new c.take_out.new.n put.count put.long put.above put.below ∙ ap (removed u) c.self.view_is
 
 pub returns-in_default : goal.returns-in_default
 returns-in_default c = sym (not_found c.args.self.now c.args.u (sym c.rank_of.ensures ∙ c.in_default.is))
