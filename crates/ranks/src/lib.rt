@@ -10,7 +10,7 @@ ghost use Rattle.ranks.specs.Orders.{Lawful, is_new, rank_found, unit_found, Num
 use std::alloc::AllocError;
 use std::marker::Model;
 
-// A clause sees a table as its units, the highest first. Its fields are a function of that list, so that it may be copied.
+// A clause sees a table as its units, the highest first. The fields are a function of that list, as `Copy` asks.
 #[derive(Copy)]
 pub struct Ranks {
     // the units, the highest first; the first n count, and the others are 0
@@ -33,7 +33,11 @@ impl Model for Ranks {
 
     ghost inverse = { λ units. record { order = padded units; place = all_ranks units; n = length units } };
 
-    ghost inverse_ok = { λ r h i. record { order = padded_is r.order r.n r.place h i; place = all_ranks_is r.order r.n r.place h i; n = filled r.order r.n r.place h i } };
+    ghost inverse_ok = { λ r h i. record {
+      order = padded_is r.order r.n r.place h i;
+      place = all_ranks_is r.order r.n r.place h i;
+      n = filled r.order r.n r.place h i;
+    } };
 }
 
 // Puts `u` in after the first k of n units, and counts it: those from k on move down.

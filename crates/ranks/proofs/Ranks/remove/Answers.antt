@@ -1,76 +1,48 @@
 -- The unit stands at its rank, and the ranks are numbered anew from there on.
-use Rattle.std.proofs.Common.{◌≡◌, take, Some, sym, ap, ◌∙◌, arith}
+use Rattle.std.proofs.Common.{◌≡◌, ◌-◌, take, set, Some, None, sym, ap, ◌∙◌, arith}
 use Rattle.theory.specs.Ranks.{removed}
 use Rattle.ranks.specs.Orders.{rank_found}
-use Rattle.ranks.proofs.Whole.{not_found}
-use Rattle.ranks.proofs.Changes.{remove-low, remove-within, remove-is, remove-lawful, remove-before, remove-kept}
+use Rattle.ranks.specs.Fields.{filled}
+use Rattle.ranks.proofs.Whole.{Stands, stands, not_found}
+use Rattle.ranks.proofs.Changes.{Changed, remove_changed}
+use Rattle.ranks.proofs.Ranks.remove.Goals.{In-Some, After-take_out}
 use Rattle.ranks.proofs.Ranks.remove.Goals as goal
 
-pub overflow_sub-rank : goal.overflow_sub-rank
-overflow_sub-rank c =
+there : (c : In-Some) → Stands (take c.self.inside.n c.self.inside.order) c.args.u c.in-Some.rank
+there c =
     let s = c.self.inside in
-    let u = c.args.u in
-    let rank = c.in-Some.rank in
-    let there : rank_found (take s.n s.order) u ≡ Some rank = ap (λ l. rank_found l u) c.self.view_is ∙ sym c.rank_of.ensures ∙ c.in-Some.is in
-    remove-low s.order s.n s.place c.self.invariant u rank there
+    stands (take s.n s.order) c.args.u c.in-Some.rank c.self.invariant.ranking.lawful.once (ap (λ l. rank_found l c.args.u) c.self.view_is ∙ sym c.rank_of.ensures ∙ c.in-Some.is)
+
+pub overflow_sub-rank : goal.overflow_sub-rank
+overflow_sub-rank c = (there (goal.at.overflow_sub-rank c).In-Some).low
 
 pub take_out-requires : goal.take_out-requires
 take_out-requires c =
     let s = c.self.inside in
-    let u = c.args.u in
-    let rank = c.in-Some.rank in
-    let there : rank_found (take s.n s.order) u ≡ Some rank = ap (λ l. rank_found l u) c.self.view_is ∙ sym c.rank_of.ensures ∙ c.in-Some.is in
-    record { within = remove-within s.order s.n s.place c.self.invariant u rank there }
+    record { within = omega (arith, filled s.order s.n s.place c.self.invariant, (there (goal.at.take_out-requires c).In-Some).within) }
+
+taken : (c : After-take_out) → Changed (set c.self.inside.place c.args.u None) (removed c.args.u (take c.self.inside.n c.self.inside.order)) c.take_out.new.order c.take_out.new.n (c.in-Some.rank - 1)
+taken c =
+    let s = c.self.inside in
+    let t = c.take_out.ensures in
+    let there : rank_found (take s.n s.order) c.args.u ≡ Some c.in-Some.rank = ap (λ l. rank_found l c.args.u) c.self.view_is ∙ sym c.rank_of.ensures ∙ c.in-Some.is in
+    remove_changed s.order s.n s.place c.self.invariant c.args.u c.in-Some.rank there c.take_out.new.order c.take_out.new.n t.count t.long t.above t.below (omega arith) t.last t.spare
 
 pub renumber-requires-clause-within : goal.renumber-requires-clause-within
-renumber-requires-clause-within c =
-    let s = c.self.inside in
-    let u = c.args.u in
-    let rank = c.in-Some.rank in
-    let there : rank_found (take s.n s.order) u ≡ Some rank = ap (λ l. rank_found l u) c.self.view_is ∙ sym c.rank_of.ensures ∙ c.in-Some.is in
-    let put = c.take_out.ensures in
-    let new = c.take_out.new.order in
-    omega (arith, put.count, remove-within s.order s.n s.place c.self.invariant u rank there)
+renumber-requires-clause-within c = (taken (goal.at.renumber-requires-clause-within c).After-take_out).within
 
 pub renumber-requires-clause-once : goal.renumber-requires-clause-once
-renumber-requires-clause-once c =
-    let s = c.self.inside in
-    let u = c.args.u in
-    let rank = c.in-Some.rank in
-    let there : rank_found (take s.n s.order) u ≡ Some rank = ap (λ l. rank_found l u) c.self.view_is ∙ sym c.rank_of.ensures ∙ c.in-Some.is in
-    let put = c.take_out.ensures in
-    let new = c.take_out.new.order in
-    (remove-lawful s.order s.n s.place c.self.invariant u rank there new c.take_out.new.n put.count put.long put.above put.below).once
+renumber-requires-clause-once c = (taken (goal.at.renumber-requires-clause-once c).After-take_out).once
 
 pub renumber-requires-clause-before : goal.renumber-requires-clause-before
-renumber-requires-clause-before c =
-    let s = c.self.inside in
-    let u = c.args.u in
-    let rank = c.in-Some.rank in
-    let there : rank_found (take s.n s.order) u ≡ Some rank = ap (λ l. rank_found l u) c.self.view_is ∙ sym c.rank_of.ensures ∙ c.in-Some.is in
-    let put = c.take_out.ensures in
-    let new = c.take_out.new.order in
-    remove-before s.order s.n s.place c.self.invariant u rank there new c.take_out.new.n put.count put.long put.above put.below
+renumber-requires-clause-before c = (taken (goal.at.renumber-requires-clause-before c).After-take_out).before
 
 pub invariant_of-self : goal.invariant_of-self
 invariant_of-self c =
-    let s = c.self.inside in
-    let u = c.args.u in
-    let rank = c.in-Some.rank in
-    let there : rank_found (take s.n s.order) u ≡ Some rank = ap (λ l. rank_found l u) c.self.view_is ∙ sym c.rank_of.ensures ∙ c.in-Some.is in
-    let put = c.take_out.ensures in
-    let new = c.take_out.new.order in
-    remove-kept s.order s.n s.place c.self.invariant u rank there new c.take_out.new.n put.count put.long put.above put.below (omega arith) c.renumber.new.place c.renumber.ensures.long put.last put.spare c.renumber.ensures.numbered c.renumber.ensures.kept
+    (taken (goal.at.invariant_of-self c).After-take_out).kept c.renumber.new.place c.renumber.ensures.long c.renumber.ensures.numbered c.renumber.ensures.kept
 
 pub returns-in-Some : goal.returns-in-Some
-returns-in-Some c =
-    let s = c.self.inside in
-    let u = c.args.u in
-    let rank = c.in-Some.rank in
-    let there : rank_found (take s.n s.order) u ≡ Some rank = ap (λ l. rank_found l u) c.self.view_is ∙ sym c.rank_of.ensures ∙ c.in-Some.is in
-    let put = c.take_out.ensures in
-    let new = c.take_out.new.order in
-    remove-is s.order s.n s.place c.self.invariant u rank there new c.take_out.new.n put.count put.long put.above put.below ∙ ap (removed u) c.self.view_is
+returns-in-Some c = (taken (goal.at.returns-in-Some c).After-take_out).is ∙ ap (removed c.args.u) c.self.view_is
 
 pub returns-in_default : goal.returns-in_default
 returns-in_default c = sym (not_found c.args.self.now c.args.u (sym c.rank_of.ensures ∙ c.in_default.is))
