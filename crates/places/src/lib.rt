@@ -75,7 +75,7 @@ fn total_at<M: Map>(m: &M, ranks: &Ranks, v: u8, k: u8) -> u32
     ensures { result ≡ total (M.Map.meaning m.now) (inserted k v ranks.now) }
 {
     m.sound();
-    let mut trial = ranks.clone().unwrap();
+    let mut trial = *ranks;
     trial.insert(k, v);
     let order = trial.as_slice();
     total_of(&build(m, order), order)

@@ -1,1 +1,3 @@
 pub mod Whole
+pub mod Shifts
+pub mod Changes

@@ -1,13 +1,13 @@
 -- An order with a unit put in or taken out: it stays lawful, and each number has the rank that it has there.
-use Rattle.std.proofs.Common.{◌≡◌, ℕ, zero, suc, ◌+◌, ◌-◌, ◌<◌, ◌≤◌, true, false, not, ◌&&◌, cond, eqb, leb, ◌⊎◌, ◌↔◌, List, [], ◌∷◌, ◌++◌, length, get_or, take, drop, replicate, Option, Some, None, sym, refl, ap, ◌∙◌, subst, inl, inr, ⊎_elim, arith}
+use Rattle.std.proofs.Common.{◌≡◌, ℕ, zero, suc, ◌+◌, ◌-◌, ◌<◌, ◌≤◌, true, false, not, ◌&&◌, leb, ◌⊎◌, List, [], ◌∷◌, ◌++◌, length, get_or, take, drop, replicate, Option, Some, None, sym, refl, ap, ◌∙◌, subst, inl, inr, ⊎_elim, arith}
 use Rattle.std.proofs.lemmas.List.{length-take-le, get_or-take}
 use Rattle.std.specs.List.{remove}
-use Rattle.std.proofs.lemmas.Bool.{and_from, le-leb, not_from_false, cases_Bool, cases_eq, cond-true, cond-false, eq-eqb, ne_eqb}
+use Rattle.std.proofs.lemmas.Bool.{and_from, le-leb, not_from_false, cases_Bool, cond-true, cond-false}
 use Rattle.theory.specs.Maps.{listed}
 use Rattle.theory.specs.Chains.{On}
 use Rattle.theory.specs.Ranks.{rank_in, Once, inserted, removed}
 use Rattle.theory.proofs.Distinct.{listed-from-off, on-from-listed, off-from-listed, on-at, at_on, rank-at, fewer}
-use Rattle.theory.proofs.Ranks.{rank-here, rank-next, removed-here, removed-next, removed-none, on-inserted, once-inserted, on-removed, once-removed, rank-inserted}
+use Rattle.theory.proofs.Ranks.{removed-here, removed-next, removed-none, on-inserted, once-inserted, on-removed, once-removed}
 use Rattle.theory.proofs.Tests.{passed}
 use Rattle.theory.proofs.Lists.{listed-on}
 use Rattle.ranks.specs.Orders.{Lawful, Ranking, rank_found}
@@ -20,6 +20,9 @@ inserted-is (suc k) v (x ∷ xs) = ap (λ l. x ∷ l) (inserted-is k v xs)
 pub inserted-last : (v : ℕ) (xs : List ℕ) → inserted (length xs) v xs ≡ xs ++ v ∷ []
 inserted-last v [] = refl
 inserted-last v (x ∷ xs) = ap (λ l. x ∷ l) (inserted-last v xs)
+
+pub inserted_after : (k v : ℕ) (xs : List ℕ) → k ≡ length xs → inserted k v xs ≡ xs ++ v ∷ []
+inserted_after k v xs all = ap (λ j. inserted j v xs) all ∙ inserted-last v xs
 
 -- what stands at k is taken out
 pub removed-is : (k : ℕ) (xs : List ℕ) → Once xs → k < length xs → removed (get_or xs k 0) xs ≡ take k xs ++ drop (suc k) xs
@@ -86,40 +89,11 @@ not_found order u e = go (cases_Bool (listed u order))
         absurd cc
     go (inr f) = removed-none u order (off-from-listed u order f)
 
-rank-kept : (xs ys : List ℕ) (u : ℕ) → On u xs → rank_in (xs ++ ys) u ≡ rank_in xs u
-rank-kept [] ys u o = absurd o
-rank-kept (x ∷ xs) ys u o = go (cases_eq u x) o (rank-kept xs ys u)
-  where
-    go : (u ≡ x) ⊎ (u ≡ x → ⊥) → On u (x ∷ xs) → (On u xs → rank_in (xs ++ ys) u ≡ rank_in xs u) → rank_in ((x ∷ xs) ++ ys) u ≡ rank_in (x ∷ xs) u
-    go (inl e) q ih = rank-here x (xs ++ ys) u e ∙ sym (rank-here x xs u e)
-    go (inr ne) (inl e) ih = absurd (ne e)
-    go (inr ne) (inr q) ih = rank-next x (xs ++ ys) u ne ∙ ap suc (ih q) ∙ sym (rank-next x xs u ne)
-
--- one more unit has the rank after all others, and theirs are as they were
-pub found_more : (xs : List ℕ) (v u : ℕ) → (On v xs → ⊥) → rank_found (xs ++ v ∷ []) u ≡ cond (eqb u v) (Some (length xs + 1)) (rank_found xs u)
-found_more xs v u far = go (cases_eq u v) (cases_Bool (listed u xs))
-  where
-    all : List ℕ
-    all = xs ++ v ∷ []
-
-    on : On u all ↔ ((u ≡ v) ⊎ On u xs)
-    on = subst (λ l. On u l ↔ ((u ≡ v) ⊎ On u xs)) (inserted-last v xs) (on-inserted (length xs) v xs u)
-
-    found : On u all → rank_found all u ≡ Some (rank_in all u)
-    found o = cond-true (listed u all) (Some (rank_in all u)) None (passed (listed u all) ((listed-on u all).1 o))
-
-    go : (u ≡ v) ⊎ (u ≡ v → ⊥) → (listed u xs ≡ true) ⊎ (listed u xs ≡ false) → rank_found all u ≡ cond (eqb u v) (Some (length xs + 1)) (rank_found xs u)
-    go (inl e) l =
-        let last : rank_in all v ≡ length xs + 1 = omega (arith, ap (λ l. rank_in l v) (inserted-last v xs), rank-inserted (length xs) v xs far (omega arith)) in
-        found (on.1 (inl e)) ∙ ap (λ w. Some (rank_in all w)) e ∙ ap Some last ∙ sym (cond-true (eqb u v) (Some (length xs + 1)) (rank_found xs u) (eq-eqb u v e))
-    go (inr ne) (inl t) =
-        let o = on-from-listed u xs t in
-        found (on.1 (inr o)) ∙ ap Some (rank-kept xs (v ∷ []) u o) ∙ sym (cond-true (listed u xs) (Some (rank_in xs u)) None t)
-        ∙ sym (cond-false (eqb u v) (Some (length xs + 1)) (rank_found xs u) (ne_eqb u v ne))
-    go (inr ne) (inr f) =
-        let off : listed u all ≡ false = listed-from-off u all (λ o. ⊎_elim ne (off-from-listed u xs f) (on.0 o)) in
-        cond-false (listed u all) (Some (rank_in all u)) None off ∙ sym (cond-false (listed u xs) (Some (rank_in xs u)) None f)
-        ∙ sym (cond-false (eqb u v) (Some (length xs + 1)) (rank_found xs u) (ne_eqb u v ne))
+-- every place of an array of zeros reads 0, and so does what lies past it
+pub zeros : (n i : ℕ) → get_or {A = ℕ} (replicate n 0) i 0 ≡ 0
+zeros zero i = refl
+zeros (suc n) zero = refl
+zeros (suc n) (suc i) = zeros n i
 
 -- no unit has a rank where no order is
 pub nones : (n u : ℕ) → get_or {A = Option ℕ} (replicate n None) u None ≡ None

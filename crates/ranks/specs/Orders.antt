@@ -1,5 +1,5 @@
 -- The order of a rank table, what it keeps, and what is asked of it.
-use Rattle.std.specs.Prelude.{◌≡◌, ℕ, ◌-◌, ◌≤◌, Bool, cond, not, ◌&&◌, List, length, Some, None, Option, nat_le, slice_index, slice_index_or}
+use Rattle.std.specs.Prelude.{◌≡◌, ℕ, ◌+◌, ◌-◌, ◌<◌, ◌≤◌, Bool, cond, not, ◌&&◌, List, length, Some, None, Option, nat_le, slice_index, slice_index_or}
 use Rattle.theory.specs.Maps.{listed}
 use Rattle.theory.specs.Chains.{On}
 use Rattle.theory.specs.Ranks.{rank_in, Once}
@@ -22,6 +22,10 @@ rank_found order u = cond (listed u order) (Some (rank_in order u)) None
 pub record Ranking (order : List ℕ) (place : List (Option ℕ)) : Type 0 where
   pub lawful : Lawful order
   pub ranked : (u : ℕ) → slice_index_or place u None ≡ rank_found order u
+
+-- The unit at each of the first n places of the order has the rank of that place, counted from 1.
+abbrev pub Numbered : List ℕ → List (Option ℕ) → ℕ → Type 0
+Numbered order place n = (i : ℕ) → i < n → slice_index_or place (slice_index order i) None ≡ Some (i + 1)
 
 -- The unit at a rank from 1 to the number of units.
 abbrev pub unit_found : List ℕ → ℕ → Option ℕ
