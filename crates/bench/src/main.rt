@@ -8,7 +8,7 @@
 ghost use Rattle.grid.specs.Held.{grid_map};
 ghost use Rattle.book.specs.Views.{Whole};
 
-use anyhow::{Context, anyhow};
+use anyhow::anyhow;
 use book::Book;
 use grid::Grid;
 use labels::List;
@@ -64,7 +64,10 @@ struct Times {
 
 // The number that a word writes.
 fn number(word: Option<&str>) -> anyhow::Result<u8> {
-    Ok(word.context("a number is missing")?.parse()?)
+    let Some(text) = word else {
+        return Err(anyhow!("a number is missing"));
+    };
+    Ok(text.parse()?)
 }
 
 // An enrolment, from the words after its letter: the sources before a stroke, the listeners after it.
@@ -72,15 +75,14 @@ fn enrolment(heap: Global, line: &str) -> anyhow::Result<Change> {
     let mut words = line.split(' ').skip(1);
     let unit = number(words.next())?;
     let rank = number(words.next())?;
-    let sources = words
-        .by_ref()
-        .take_while(|word| *word != "/")
-        .map(|word| number(Some(word)))
-        .try_collect(heap)?;
-    let listeners = words
-        .filter(|word| *word != "/")
-        .map(|word| number(Some(word)))
-        .try_collect(heap)?;
+    let mut sources = Vec::new(heap);
+    for word in words.by_ref().take_while(|word| *word != "/") {
+        sources.push(number(Some(word))?)?;
+    }
+    let mut listeners = Vec::new(heap);
+    for word in words.filter(|word| *word != "/") {
+        listeners.push(number(Some(word))?)?;
+    }
     Ok(Change::Enrol {
         unit,
         rank,
@@ -122,10 +124,11 @@ fn read_changes(rt: &HostRuntime) -> anyhow::Result<Vec<Change>> {
     let mut text = String::new(rt.alloc());
     let mut input = BufReader::new(rt.alloc(), rt.stdin())?;
     let _ = input.read_to_string(&mut text)?;
-    text.as_str()
-        .lines()
-        .map(|line| parse_change(rt.alloc(), line))
-        .try_collect(rt.alloc())
+    let mut changes = Vec::new(rt.alloc());
+    for line in text.as_str().lines() {
+        changes.push(parse_change(rt.alloc(), line)?)?;
+    }
+    Ok(changes)
 }
 
 // The number of labels so far, and the checksum of their lists.
