@@ -20,9 +20,9 @@ named-first names name from zero = refl
 named-first names name from (suc more) =
     ap (cond (is_name (names from) name) (Some from)) (ap (λ (k : ℕ). find (λ u. is_name (names u) name) (range_with_len k more)) (add-one from) ∙ named-first names name (suc from) more)
 
-pub first-named : (names : Names) (name : List ℕ) (from more : ℕ) → from ≡ 0 → more ≡ 256 → find (λ u. is_name (names u) name) (range_with_len from more) ≡ unit_named names name
+pub first-named : (names : Names) (name : List ℕ) → find (λ u. is_name (names u) name) (range_with_len 0 256) ≡ unit_named names name
 unfolding unit_named
-first-named names name from more begins ends = named-first names name from more ∙ rw (begins, ends)
+first-named names name = named-first names name 0 256
 
 -- who has the name, and that nobody has it
 abbrev Told : Names → List ℕ → ℕ → ℕ → Option ℕ → Type 0
@@ -57,3 +57,17 @@ holder names name past = go (named_from names name 0 256) (told names name 0 256
         at u e b (inl l) = t u (omega arith) (omega arith) e
         at u e b (inr g) = no u e (past u g)
     go (Some u) t = t.0
+
+-- of a name that no number has
+absent : (names : Names) (name : List ℕ) → ((u : ℕ) → names u ≡ Some name → ⊥) → (from more : ℕ) → named_from names name from more ≡ None
+unfolding named_from
+absent names name none from zero = refl
+absent names name none from (suc more) = go (is_name (names from) name) refl (absent names name none (suc from) more)
+  where
+    go : (b : Bool) → is_name (names from) name ≡ b → {o : Option ℕ} → o ≡ None → cond b (Some from) o ≡ None
+    go true e rest = absurd (none from (is-name-true (names from) name e))
+    go false e rest = rest
+
+pub nobody : (names : Names) (name : List ℕ) → ((u : ℕ) → names u ≡ Some name → ⊥) → unit_named names name ≡ None
+unfolding unit_named
+nobody names name none = absent names name none 0 256

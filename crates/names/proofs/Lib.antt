@@ -1,2 +1,2 @@
+mod Blocks
 pub mod Finding
-pub mod Numbers

@@ -2,7 +2,7 @@
 // card anew and leaves the others.
 #![tactic(auto)]
 
-ghost use Rattle.std.specs.Prelude.{◌≡◌, ℕ, ◌≤◌, length, Some, None, MatchOption, ◌≢◌, slice_index_or};
+ghost use Rattle.std.specs.Prelude.{◌≡◌, ℕ, ◌≤◌, length, take, Some, None, MatchOption, ◌≢◌, slice_index_or};
 ghost use Rattle.names.specs.Names.{nameless, renamed, is_name, unit_named, found_at, free_at};
 ghost use Rattle.names.specs.Cards.{names_of};
 
@@ -50,19 +50,27 @@ impl Cards {
     }
 
     // Whether this is the name on the card of u.
-    fn has_at(&self, u: u8, name: &[u8]) -> bool
-        ensures { result ≡ is_name (names_of self.now u) name.now }
+    fn has_at(&self, u: u8, name: &Name) -> bool
+        ensures { result ≡ is_name (names_of self.now u) (take name.now.len name.now.bytes) }
     {
         let card = &self.cards[usize::from(u)];
         card.as_ref().is_some_and(|own| own.is(name))
     }
 
-    // The number whose card has the name, if there is one.
+    // The number whose card has the name, if there is one. A card holds at most 16 bytes.
+    #[tactic(auto, using(crate::proofs::Blocks::nobody_long))]
     pub fn find(&self, name: &[u8]) -> Option<u8>
         ensures is { result ≡ unit_named (names_of self.now) name.now }
         ensures holder { MatchOption result ((u : ℕ) → names_of self.now u ≢ Some name.now) (λ u. names_of self.now u ≡ Some name.now) }
     {
-        (0..=255u8).find(|u| self.has_at(*u, name))
+        if name.len() > 16 {
+            return None;
+        }
+        let sought = Name::of(name);
+        // Not `0..=255u8`, which at each step also tests whether it has ended.
+        (0..256u16)
+            .find(|u| self.has_at(*u as u8, &sought))
+            .map(|u| u as u8)
     }
 
     // The number with the name that begins at a place of a line.

@@ -1,13 +1,14 @@
 // A name of at most 16 bytes, in fixed memory. Cards can be copied, and the kit's `ArrayVec` cannot.
-ghost use Rattle.std.specs.Prelude.{◌≡◌, ◌≤◌, length, take};
+ghost use Rattle.std.specs.Prelude.{◌≡◌, ◌≤◌, ◌-◌, length, take, drop, replicate};
 ghost use Rattle.std.specs.Str.{bytes_eq};
 
-// The bytes after the first `len` are no part of the name.
+// The bytes after the first `len` are no part of the name. They are 0, so that two names are compared by their whole blocks.
 #[derive(Clone, Copy)]
 pub struct Name {
     bytes: [u8; 16],
     len: u8,
     ghost short: { len ≤ 16 },
+    ghost padded: { drop len bytes ≡ replicate (16 - len) 0 },
 }
 
 impl Name {
@@ -23,17 +24,11 @@ impl Name {
         }
     }
 
-    pub fn as_slice(&self) -> &[u8]
-        ensures { result.now ≡ take self.now.len self.now.bytes }
+    // Whether the two are the same name. Two blocks are compared at once, wherever the names differ, so they come first.
+    #[tactic(auto, using(crate::proofs::Blocks::same_blocks, crate::proofs::Blocks::other_blocks))]
+    pub fn is(&self, other: &Name) -> bool
+        ensures { result ≡ bytes_eq (take self.now.len self.now.bytes) (take other.now.len other.now.bytes) }
     {
-        &self.bytes[..usize::from(self.len)]
-    }
-
-    // Whether this is the name. Names that begin alike are often told apart by their last byte, so that is compared first.
-    pub fn is(&self, name: &[u8]) -> bool
-        ensures { result ≡ bytes_eq (take self.now.len self.now.bytes) name.now }
-    {
-        let own = self.as_slice();
-        own.last() == name.last() && own == name
+        self.bytes == other.bytes && self.len == other.len
     }
 }
