@@ -49,14 +49,14 @@ fn mark(marks: &UnitSet, w: u8, ins: &Holders, outs: &Holders, u: u8) -> UnitSet
     *marks
 }
 
-// The unit at place k of an order, with the units before it.
+// The unit at place k of an order, with the units before it. These are lent: a set that was just changed is slow to copy.
 #[derive(Clone, Copy)]
 struct Turn<'a> {
     order: &'a [u8],
     k: usize,
-    done: UnitSet,
+    done: &'a UnitSet,
     ghost place: { k < length order.now },
-    ghost firsts: { (x : ℕ) → has done x ≡ listed x (take k order.now) },
+    ghost firsts: { (x : ℕ) → has done.now x ≡ listed x (take k order.now) },
 }
 
 // What the units before the unit of the turn cover for it, and these units.
@@ -65,7 +65,7 @@ fn covered(ins: &Holders, outs: &Holders, turn: Turn<'_>) -> UnitSet
     ensures { MarksBy turn.entry.order.now (rows ins.now outs.now) (slice_index turn.entry.order.now turn.entry.k) (has result) }
 {
     let u = turn.order[turn.k];
-    let mut marks = turn.done;
+    let mut marks = *turn.done;
     for w in &turn.order[..turn.k] {
         marks = mark(&marks, *w, ins, outs, u);
     }
@@ -130,7 +130,12 @@ fn renew_all<M: Map>(labels: &mut Labels, m: &M, order: &[u8], touched: &Touched
     let mut total = 0;
     let mut done = UnitSet::empty();
     for (k, u) in order.iter().enumerate() {
-        total += renew_both(labels, m, Turn { order, k, done }, touched);
+        let turn = Turn {
+            order,
+            k,
+            done: &done,
+        };
+        total += renew_both(labels, m, turn, touched);
         done.insert(*u);
     }
     total

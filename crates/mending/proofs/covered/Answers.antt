@@ -9,7 +9,7 @@ use Rattle.mending.proofs.covered.Goals as goal
 pub loop-w-init : goal.loop-w-init
 loop-w-init c =
     let turn = c.args.turn in
-    marking-none turn.order.now (rows c.args.ins.now c.args.outs.now) (get_or turn.order.now turn.k 0) turn.k (has turn.done) (omega (arith, turn.place)) turn.firsts
+    marking-none turn.order.now (rows c.args.ins.now c.args.outs.now) (get_or turn.order.now turn.k 0) turn.k (has turn.done.now) (omega (arith, turn.place)) turn.firsts
 
 pub loop-w-preserved : goal.loop-w-preserved
 loop-w-preserved c =
